@@ -1,0 +1,10 @@
+pub mod Truth
+pub mod Tally
+pub mod Digits
+pub mod Members
+pub mod Counting
+pub mod Least
+pub mod Restart
+pub mod Machine
+pub mod Every
+pub mod Owners

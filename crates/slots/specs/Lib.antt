@@ -1,0 +1,4 @@
+pub mod Sizes
+pub mod Refusals
+pub mod Sets
+pub mod Owners
