@@ -1,4 +1,5 @@
 pub mod Truth
+pub mod Checks
 pub mod Tally
 pub mod Digits
 pub mod Members

@@ -1,0 +1,4 @@
+pub mod Entries
+pub mod High
+pub mod Refused
+pub mod Both
