@@ -1,0 +1,5 @@
+pub mod Lines
+pub mod Shape
+pub mod Shift
+pub mod Hands
+pub mod Owned

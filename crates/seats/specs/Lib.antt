@@ -1,0 +1,4 @@
+pub mod Queues
+pub mod SlotTables
+pub mod Seats
+pub mod Tables
