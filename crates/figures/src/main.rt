@@ -67,7 +67,7 @@ fn repeated(op: u8, k: usize) -> [u8; LONGEST]
     f
 }
 
-fn lengths() {
+fn short_frames() {
     read(b"frame of 2 bytes", b"\x01\x00", 7);
     read(b"frame 010000", b"\x01\x00\x00", 0);
     read(b"frame 020000", b"\x02\x00\x00", 7);
@@ -77,6 +77,9 @@ fn lengths() {
         b"\x01\x00\x04\x01\x00\x00",
         7,
     );
+}
+
+fn long_frames() {
     let most = repeated(1, 64);
     read(b"length 256", &most[0..259], 0);
     let more = repeated(1, 65);
@@ -87,7 +90,7 @@ fn lengths() {
     read(b"length 256, no instruction legal", &last[0..259], 9);
 }
 
-fn instructions() {
+fn skips() {
     read(
         b"skip to position k",
         b"\x01\x00\x08\x08\x00\x01\x01\x01\x00\x00\x00",
@@ -98,6 +101,9 @@ fn instructions() {
         b"\x01\x00\x08\x08\x00\x01\x02\x01\x00\x00\x00",
         9,
     );
+}
+
+fn operands() {
     read(b"op 2 of cell 1023", b"\x01\x00\x04\x02\x00\x03\xff", 0);
     read(b"op 2 of cell 1024", b"\x01\x00\x04\x02\x00\x04\x00", 9);
     read(b"register 7", b"\x01\x00\x04\x06\x07\x07\x00", 0);
@@ -142,10 +148,7 @@ fn found(name: &[u8], site: &[u8], works: &[u8], number: u32, expected: usize) {
     );
 }
 
-fn shelves() {
-    let site = b"\x00\x01\x01\x00\x00\x00\x02\x01\x00\x01\x09\x00\x02\x01\x00\x00";
-    let works = b"\x00\x02\x01\x00\x00\x00\x07\x01\x00\x02\x05\x06";
-    let cut = b"\x00\x07\x01\x00\x02\x05";
+fn whole_shelves<'a>(site: &'a [u8], works: &'a [u8]) {
     part(
         b"number 2, twice on the site's shelf",
         shelf::lookup(site, works, 2),
@@ -159,6 +162,10 @@ fn shelves() {
     found(b"number 3, on neither", site, works, 3, 13);
     found(b"number 65538, on neither", site, works, 65538, 13);
     found(b"empty shelves", b"", b"", 2, 13);
+}
+
+fn damaged_shelves<'a>(site: &'a [u8], works: &'a [u8]) {
+    let cut = b"\x00\x07\x01\x00\x02\x05";
     found(
         b"number 2, an entry of the works shelf cut short by one byte",
         site,
@@ -183,6 +190,13 @@ fn shelves() {
     );
 }
 
+fn shelves() {
+    let site = b"\x00\x01\x01\x00\x00\x00\x02\x01\x00\x01\x09\x00\x02\x01\x00\x00";
+    let works = b"\x00\x02\x01\x00\x00\x00\x07\x01\x00\x02\x05\x06";
+    whole_shelves(site, works);
+    damaged_shelves(site, works);
+}
+
 fn long_body() {
     let mut s = [255u8; WHOLE_ENTRY];
     s[2] = script::VERSION;
@@ -202,8 +216,10 @@ fn long_body() {
 
 fn main() {
     owners();
-    lengths();
-    instructions();
+    short_frames();
+    long_frames();
+    skips();
+    operands();
     written();
     shelves();
     long_body();
