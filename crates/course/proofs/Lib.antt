@@ -1,0 +1,4 @@
+pub mod Acts
+pub mod Shapes
+pub mod Kept
+pub mod Known

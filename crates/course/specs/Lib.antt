@@ -1,0 +1,4 @@
+pub mod Runs
+pub mod Wants
+pub mod Cases
+pub mod Steps
