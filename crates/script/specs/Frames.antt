@@ -4,7 +4,7 @@ use mathlib.Core.Bool.{Bool, not, _&&_}
 use mathlib.Core.List.{List, [], _∷_, _++_}
 use lib.ListN.{length, getD, drop}
 use lib.Dec.{ltb, leb, eqb}
-use Rattle.slots.specs.Refusals.{_when_, refusal, granted}
+use Rattle.slots.specs.Refusals.{Check, _when_, refusal, granted}
 use Rattle.script.specs.declared.code.Instr.{Instr}
 use Rattle.script.specs.declared.code.Script.{Script}
 use Rattle.script.specs.declared.reading.ReadScript.{ReadScript}
@@ -57,8 +57,12 @@ isFrame f =
 
 -- ---- the script reader
 
+-- 7, no frame; then 8 and 9
+abbrev pub readChecks : List ℕ → List Check
+readChecks f = (7 when not (isFrame f)) ∷ codeChecks (length (decode (body f))) (decode (body f))
+
 unfoldable pub readRefusal : List ℕ → ℕ
-readRefusal f = refusal ((7 when not (isFrame f)) ∷ codeChecks (length (decode (body f))) (decode (body f)))
+readRefusal f = refusal (readChecks f)
 
 abbrev pub readAs : ℕ → Script → ReadScript
 readAs n s = record { number = n; script = s }

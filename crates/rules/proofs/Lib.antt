@@ -1,0 +1,16 @@
+pub mod Every
+pub mod Shaped
+pub mod Blanks
+pub mod Both
+pub mod Apart
+pub mod Entries
+pub mod Meetings
+pub mod Queued
+pub mod Places
+pub mod Pendings
+pub mod Waitings
+pub mod Counts
+pub mod Endings
+pub mod Phases
+pub mod Ownership
+pub mod Same

@@ -1,0 +1,4 @@
+pub mod Loops
+pub mod Meets
+pub mod Bounds
+pub mod ByPhase
