@@ -75,7 +75,6 @@ unfolding metAll
 met-append [] ys u = refl
 met-append (x ∷ xs) ys u = met-append xs ys (met x u)
 
--- the first n are the queue's entries: n is its length, or what the array holds
 module _ (q : Queue) (i : ℕ) (u : Unmet) where
   pub met-next : i < length (entries q) → metAll (drop i (entries q)) u ≡ metAll (drop (i + 1) (entries q)) (met (getD (q .seats) i 0) u)
   unfolding metAll entries
@@ -88,10 +87,7 @@ module _ (q : Queue) (i : ℕ) (u : Unmet) where
   unfolding metAll
   met-end h = ap (λ (xs : List ℕ). metAll xs u) (drop-of-length-le (entries q) {i = i} h)
 
-pub entries-some : (q : Queue) → length (q .seats) ≡ seats → q .len < seats → length (entries q) ≡ q .len
-unfolding entries
-entries-some q e l = simp length-take (omega arith)
-
+-- a length past the array's end is cut off
 pub entries-full : (q : Queue) → length (q .seats) ≡ seats → seats ≤ q .len → length (entries q) ≡ seats
 unfolding entries
 entries-full q e l = simp length-take (omega arith)

@@ -7,8 +7,9 @@ use native.Mathlib.Omega.{arith}
 use lib.ListN.{length, drop}
 use Rattle.seats.specs.Queues.{seats, entries}
 use Rattle.seats.proofs.Shape.{queue-16}
+use Rattle.seats.proofs.Lines.{entries-length}
 use Rattle.soundness.specs.Tests.{metAll}
-use Rattle.soundness.proofs.Meets.{met-next, met-end, entries-some, entries-full}
+use Rattle.soundness.proofs.Meets.{met-next, met-end, entries-full}
 use Rattle.soundness.proofs.lines.meet_queue.Statement.{statement}
 use Rattle.soundness.proofs.lines.meet_queue.Tie as tie
 
@@ -25,7 +26,7 @@ module _ (c : tie.Joined1 Inv-loop μ-loop) where
 
   bound : c .if1 .n ≡ length (entries (c .before .args .t2))
   bound = elim (c .if1 .came) [
-    | inl w ↦ w .1 ∙ sym (entries-some (c .before .args .t2) array (w .0 .taken))
+    | inl w ↦ w .1 ∙ sym (entries-length (c .before .args .t2) (record { array = array; short = omega (arith, w .0 .taken) }))
     | inr w ↦ w .1 ∙ sym (entries-full (c .before .args .t2) array (w .0 .left))
   ]
 

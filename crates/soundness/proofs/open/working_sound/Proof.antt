@@ -94,7 +94,7 @@ returns c =
       b .before .long3 .ensures,
       b .before .before .long2 .ensures,
       b .before .before .before .long .ensures,
-      one-is (d),
+      one-is d,
     )
 
 pub working-sound-spec : {M : Type 1} → statement M
