@@ -54,6 +54,10 @@ fn report(t: Table, seat: u32) {
     say_number(b"slots: ", r.tally.slots);
 }
 
+fn say_cell(name: &[u8], image: &[u32; CELLS as usize], c: u32) {
+    say_number(name, table::cell_read(image, Cell(c)).value);
+}
+
 fn play(t: Table, image: &mut [u32; CELLS as usize]) -> Table {
     let mut now = t;
     let mut i = 0;
@@ -75,6 +79,6 @@ fn main() {
     let both = open(first, 1, 7, b"\x01\x00\x08\x03\x00\x00\x00\x03\x00\x00\x08");
     let end = play(both, &mut image);
     report(end, 0);
-    say_number(b"cell 0: ", table::cell_read(&image, Cell(0)).value);
-    say_number(b"cell 8: ", table::cell_read(&image, Cell(8)).value);
+    say_cell(b"cell 0: ", &image, 0);
+    say_cell(b"cell 8: ", &image, 8);
 }
