@@ -1,3 +1,4 @@
+-- The comparison of the code is that of the definition.
 use mathlib.Core.Path.{refl}
 use Rattle.script.specs.Meaning.{isLess}
 use Rattle.script.proofs.act.is_less.Statement.{statement}

@@ -1,3 +1,4 @@
+-- What `with_register` ensures is the answer's first part.
 use borrow.Author.Needs.{needs}
 use Rattle.script.proofs.act.put.Statement.{statement}
 use Rattle.script.proofs.act.put.Tie as tie

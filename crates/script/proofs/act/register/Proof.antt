@@ -1,3 +1,4 @@
+-- In range the element is read; past the end a list of eight gives its default, 0.
 use native.Mathlib.Omega.{arith}
 use mathlib.Core.Path.{_≡_, sym}
 use lib.ListN.{length, List·getD-eq-default}

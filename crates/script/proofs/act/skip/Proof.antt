@@ -1,3 +1,4 @@
+-- The comparison is `isLess`, so each branch is one side of the `cond`.
 use borrow.Author.Needs.{needs}
 use Rattle.script.proofs.act.skip.Statement.{statement}
 use Rattle.script.proofs.act.skip.Tie as tie

@@ -1,3 +1,4 @@
+-- In range the element is stored; past the end a store changes nothing.
 use native.Mathlib.Omega.{arith}
 use mathlib.Core.Path.{_≡_, sym}
 use lib.ListN.{length}

@@ -1,3 +1,5 @@
+-- In the arm of a local op the act is its line of the table of ops; the wrapping sum and difference of the standard library are `plus` and
+-- `minus`. Any other op leaves the registers as they are (`not-local`).
 use Rattle.script.specs.Meaning.{plus, localOf}
 use Rattle.script.proofs.Acts.{op-1, op-6, op-7, op-8, not-local, difference-is}
 use mathlib.Core.Path.{sym}
@@ -34,21 +36,43 @@ skip-requires c κs = search needs
 
 returns : tie.Need-returns
 unfolding localOf
-returns c = let b = c .before .before .before .before .before .args in rw (op-1 (b .self) (b .regs) (c .before .before .match .keys1), c .put .ensures, c .before .word .ensures)
+returns c =
+    let b = c .before .before .before .before .before .args in
+    rw (op-1 (b .self) (b .regs) (c .before .before .match .keys1), c .put .ensures, c .before .word .ensures)
 
 returns-2 : tie.Need-returns-2
 unfolding localOf plus
-returns-2 c = let b = c .before .before .before .before .before .args in rw (op-6 (b .self) (b .regs) (c .before .before .match .keys2), c .put2 .ensures, c .before .wrapping-add-u32 .ensures, c .before .before .before .register2 .ensures, c .before .before .before .before .register .ensures)
+returns-2 c =
+    let b = c .before .before .before .before .before .args in
+    rw (
+      op-6 (b .self) (b .regs) (c .before .before .match .keys2),
+      c .put2 .ensures,
+      c .before .wrapping-add-u32 .ensures,
+      c .before .before .before .register2 .ensures,
+      c .before .before .before .before .register .ensures,
+    )
 
 returns-3 : tie.Need-returns-3
 unfolding localOf
 returns-3 c =
-    let e = difference-is (c .before .before .before .before .register .result) (c .before .before .before .register2 .result) (c .before .wrapping-sub-u32 .result) (search needs) (search needs) (c .before .wrapping-sub-u32 .ensures) in
-    let b = c .before .before .before .before .before .args in rw (op-7 (b .self) (b .regs) (c .before .before .match .keys3), c .put3 .ensures, e, c .before .before .before .register2 .ensures, c .before .before .before .before .register .ensures)
+    let x = c .before .before .before .before in
+    let y = c .before .before .before in
+    let d = c .before in
+    let e = difference-is (x .register .result) (y .register2 .result) (d .wrapping-sub-u32 .result) (search needs) (search needs)
+    (d .wrapping-sub-u32 .ensures) in
+    let b = x .before .args in
+    rw (op-7 (b .self) (b .regs) (c .before .before .match .keys3), c .put3 .ensures, e, y .register2 .ensures, x .register .ensures)
 
 returns-4 : tie.Need-returns-4
 unfolding localOf
-returns-4 c = let b = c .before .before .before .before .args in rw (op-8 (b .self) (b .regs) (c .before .match .keys4), c .skip .ensures, c .before .before .register2 .ensures, c .before .before .before .register .ensures)
+returns-4 c =
+    let b = c .before .before .before .before .args in
+    rw (
+      op-8 (b .self) (b .regs) (c .before .match .keys4),
+      c .skip .ensures,
+      c .before .before .register2 .ensures,
+      c .before .before .before .register .ensures,
+    )
 
 returns-5 : tie.Need-returns-5
 returns-5 c =

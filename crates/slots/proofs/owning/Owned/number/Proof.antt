@@ -1,3 +1,4 @@
+-- In each arm the answer is known, and `said` computes its number.
 use Rattle.slots.specs.Owners.{said}
 use borrow.Author.Needs.{needs}
 use Rattle.slots.proofs.owning.Owned.number.Statement.{statement}
