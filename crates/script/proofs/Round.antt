@@ -40,10 +40,10 @@ frame-back (a ∷ b ∷ c ∷ rest) B F =
     rw (high-is, low-is, encode-decode rest (omega (arith, F .fours)), F .versioned)
 
 -- what is read of a frame
-script-read : (f : List ℕ) → readRefusal f ≡ 0 → readScript f .script ≡ scriptOf (decode (body f))
+pub script-read : (f : List ℕ) → readRefusal f ≡ 0 → readScript f .script ≡ scriptOf (decode (body f))
 script-read f e = ap (λ (r : ReadScript). r .script) (sym (read-script f e))
 
-instrs-read : (f : List ℕ) → readRefusal f ≡ 0 → instrs (readScript f .script) ≡ decode (body f)
+pub instrs-read : (f : List ℕ) → readRefusal f ≡ 0 → instrs (readScript f .script) ≡ decode (body f)
 instrs-read f e = ap instrs (script-read f e) ∙ instrs-script (decode (body f))
 
 frame-instrs : (f : List ℕ) → Bytes f → readRefusal f ≡ 0 → frameOf (instrs (readScript f .script)) ≡ f

@@ -73,8 +73,12 @@ readScript f = readAs (readRefusal f) (granted (readRefusal f) (scriptOf (decode
 
 -- ---- the script writer, where the destination has room bytes
 
+-- 8 and 9; then 14, destination shorter than the frame
+abbrev pub writeChecks : Script → ℕ → List Check
+writeChecks s room = scriptChecks s ++ ((14 when ltb room (frameBytes (s .len))) ∷ [])
+
 unfoldable pub writeRefusal : Script → ℕ → ℕ
-writeRefusal s room = refusal (scriptChecks s ++ ((14 when ltb room (frameBytes (s .len))) ∷ []))
+writeRefusal s room = refusal (writeChecks s room)
 
 -- how many bytes are written, or a refusal's number and none
 unfoldable pub written : Script → ℕ → Written

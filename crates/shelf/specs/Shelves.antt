@@ -4,7 +4,7 @@ use mathlib.Core.Bool.{Bool, true, false, not, cond, _&&_}
 use mathlib.Core.List.{List, [], _∷_}
 use lib.ListN.{length, getD, take, drop}
 use lib.Dec.{leb, eqb}
-use Rattle.slots.specs.Refusals.{_when_, refusal, granted}
+use Rattle.slots.specs.Refusals.{Check, _when_, refusal, granted}
 use Rattle.script.specs.Scripts.{headBytes, word}
 use Rattle.script.specs.Frames.{version}
 
@@ -73,12 +73,12 @@ unfoldable pub onEither : List ℕ → List ℕ → ℕ → List ℕ
 onEither site works n = orElse (find n (shelf site)) (find n (shelf works))
 
 -- 12, a shelf damaged; 13, number on neither shelf
+abbrev pub lookupChecks : List ℕ → List ℕ → ℕ → List Check
+lookupChecks site works n =
+    (12 when not (isSound (shelf site) && isSound (shelf works))) ∷ (13 when eqb (length (onEither site works n)) 0) ∷ []
+
 unfoldable pub lookupRefusal : List ℕ → List ℕ → ℕ → ℕ
-lookupRefusal site works n =
-    refusal
-    ((12 when not (isSound (shelf site) && isSound (shelf works)))
-    ∷ (13 when eqb (length (onEither site works n)) 0)
-    ∷ [])
+lookupRefusal site works n = refusal (lookupChecks site works n)
 
 -- the frame handed out, or an empty part
 unfoldable pub frameFound : List ℕ → List ℕ → ℕ → List ℕ

@@ -9,3 +9,4 @@ pub mod Restart
 pub mod Machine
 pub mod Every
 pub mod Owners
+pub mod Settled

@@ -1,10 +1,10 @@
 -- 'Cells and who owns them': the rule of the owner list, and what `owner` answers.
 use mathlib.Core.Path.{_≡_}
 use Prim.Native.Nat.{ℕ, _+_, _*_, _/_, _%_, _<_}
-use mathlib.Core.List.{[], _∷_}
+use mathlib.Core.List.{List, [], _∷_}
 use lib.Dec.{leb, eqb}
 use Rattle.slots.specs.Sizes.{cells, slots}
-use Rattle.slots.specs.Refusals.{_when_, refusal, granted}
+use Rattle.slots.specs.Refusals.{Check, _when_, refusal, granted}
 use Rattle.slots.specs.Sets.{tally}
 use Rattle.slots.specs.declared.Cell.{Cell}
 use Rattle.slots.specs.declared.owning.Owned.{Owned}
@@ -36,8 +36,11 @@ said (By s) = says 0 (s .0)
 said TooHigh = says 10 0
 
 -- 10, cell above 1,023
+abbrev pub ownerChecks : ℕ → List Check
+ownerChecks c = (10 when leb cells c) ∷ []
+
 unfoldable pub ownerRefusal : ℕ → ℕ
-ownerRefusal c = refusal ((10 when leb cells c) ∷ [])
+ownerRefusal c = refusal (ownerChecks c)
 
 -- cell c's owner, or the refusal
 unfoldable pub ownerSays : ℕ → Says

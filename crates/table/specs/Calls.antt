@@ -5,7 +5,7 @@ use mathlib.Core.List.{List, [], _∷_, _++_}
 use lib.Dec.{ltb, leb, eqb}
 use lib.ListN.{length, getD, set, replicate}
 use Rattle.slots.specs.Sizes.{cells, slots}
-use Rattle.slots.specs.Refusals.{_when_, refusal, granted}
+use Rattle.slots.specs.Refusals.{Check, _when_, refusal, granted}
 use Rattle.slots.specs.Sets.{has, none, first}
 use Rattle.script.specs.declared.code.Script.{Script}
 use Rattle.script.specs.Scripts.{registers}
@@ -44,13 +44,11 @@ unfoldable pub openedSeat : Script → ℕ → Seat
 openedSeat s reading = record { phase = Open; script = s; run = openedRun reading; pending = none; tally = noTally }
 
 module _ (own : ℕ → ℕ) (t : Table) where
+  abbrev pub openChecks : ℕ → List ℕ → List Check
+  openChecks i f = (1 when not (soundTest own t)) ∷ (3 when leb seats i) ∷ (4 when isOpen (seatAt t i .phase)) ∷ readChecks f
+
   unfoldable pub openRefusal : ℕ → List ℕ → ℕ
-  openRefusal i f =
-      refusal
-      ((1 when not (soundTest own t))
-      ∷ (3 when leb seats i)
-      ∷ (4 when isOpen (seatAt t i .phase))
-      ∷ readChecks f)
+  openRefusal i f = refusal (openChecks i f)
 
   unfoldable pub openCall : ℕ → ℕ → List ℕ → Opened
   openCall i reading f =
@@ -81,14 +79,16 @@ module _ (own : ℕ → ℕ) (t : Table) where
   imageBy img i = imageAfter (caseOf i) (seatAt t i .run) img
 
   -- n cells in the image
-  unfoldable pub stepRefusal : ℕ → ℕ → ℕ
-  stepRefusal n i =
-      refusal
-      ((1 when not (soundTest own t))
+  abbrev pub stepChecks : ℕ → ℕ → List Check
+  stepChecks n i =
+      (1 when not (soundTest own t))
       ∷ (2 when not (eqb n cells))
       ∷ (3 when leb seats i)
       ∷ (5 when not (isOpen (seatAt t i .phase)))
-      ∷ [])
+      ∷ []
+
+  unfoldable pub stepRefusal : ℕ → ℕ → ℕ
+  stepRefusal n i = refusal (stepChecks n i)
 
   unfoldable pub stepCall : List ℕ → ℕ → Stepped
   stepCall img i =
@@ -117,9 +117,11 @@ abbrev pub reportOf : Seat → Report
 reportOf z = record { number = 0; outcome = z .phase; regs = z .run .regs; tally = z .tally }
 
 module _ (own : ℕ → ℕ) (t : Table) where
+  abbrev pub resultChecks : ℕ → List Check
+  resultChecks i = (1 when not (soundTest own t)) ∷ (3 when leb seats i) ∷ (6 when not (isEnded (seatAt t i .phase))) ∷ []
+
   unfoldable pub resultRefusal : ℕ → ℕ
-  resultRefusal i =
-      refusal ((1 when not (soundTest own t)) ∷ (3 when leb seats i) ∷ (6 when not (isEnded (seatAt t i .phase))) ∷ [])
+  resultRefusal i = refusal (resultChecks i)
 
   unfoldable pub resultCall : ℕ → Report
   resultCall i = granted (resultRefusal i) (reportOf (seatAt t i)) (noReport (resultRefusal i))
@@ -148,16 +150,22 @@ viewOf t s =
     }
 
 module _ (own : ℕ → ℕ) (t : Table) where
+  abbrev pub viewChecks : ℕ → List Check
+  viewChecks s = (1 when not (soundTest own t)) ∷ (11 when leb slots s) ∷ []
+
   unfoldable pub viewRefusal : ℕ → ℕ
-  viewRefusal s = refusal ((1 when not (soundTest own t)) ∷ (11 when leb slots s) ∷ [])
+  viewRefusal s = refusal (viewChecks s)
 
   unfoldable pub slotViewCall : ℕ → SlotView
   slotViewCall s = granted (viewRefusal s) (viewOf (t .slots) s) (noView (viewRefusal s))
 
 -- ---- cell read: 2, 10
 
+abbrev pub cellChecks : List ℕ → ℕ → List Check
+cellChecks img c = (2 when not (eqb (length img) cells)) ∷ (10 when leb cells c) ∷ []
+
 unfoldable pub cellRefusal : List ℕ → ℕ → ℕ
-cellRefusal img c = refusal ((2 when not (eqb (length img) cells)) ∷ (10 when leb cells c) ∷ [])
+cellRefusal img c = refusal (cellChecks img c)
 
 unfoldable pub cellReadCall : List ℕ → ℕ → CellRead
 cellReadCall img c = record { number = cellRefusal img c; value = granted (cellRefusal img c) (getD img c 0) 0 }
