@@ -1,0 +1,1 @@
+// The three demands as theorems about the library's calls. There is nothing to run here.
