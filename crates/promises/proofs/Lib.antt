@@ -20,6 +20,20 @@ pub mod Counts
 pub mod Totals
 pub mod Rounds
 pub mod RoundsEnd
+pub mod FigureLocks
+pub mod LocksAfter
+pub mod FigureAlike
+pub mod FigureOthers
+pub mod FigureMoves
+pub mod FigureTable
+pub mod FigureCode
+pub mod FigureAccess
+pub mod FigureWaits
+pub mod FigureBack
+pub mod FollowsStep
+pub mod FollowsOpening
+pub mod FollowsSeen
+pub mod FollowsFigure
 pub mod FiguresFrames
 pub mod FiguresSeat
 pub mod FiguresPlain
@@ -27,3 +41,4 @@ pub mod FiguresHold
 pub mod ShamReplies
 pub mod ShamCounts
 pub mod ShamsOut
+pub mod Promised

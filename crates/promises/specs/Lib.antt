@@ -5,3 +5,4 @@ pub mod Demand2
 pub mod Demand3
 pub mod Figures
 pub mod Shams
+pub mod Promises
