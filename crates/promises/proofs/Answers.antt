@@ -20,7 +20,7 @@ use Rattle.soundness.specs.Tests.{soundTest}
 use Rattle.table.specs.Calls.{isEnded, reportOf, resultRefusal, resultCall, holderOf, viewOf, viewRefusal, slotViewCall}
 use Rattle.upkeep.proofs.Stands.{Stands}
 use Rattle.promises.specs.Histories.{saucebell, viewed}
-use Rattle.promises.proofs.Replies.{stands-test}
+use Rattle.upkeep.proofs.Replies.{stands-test}
 
 module _ (own : ℕ → ℕ) (t : Table) (i : ℕ) where
   -- `result` says what the seat keeps

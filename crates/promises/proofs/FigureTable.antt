@@ -24,7 +24,7 @@ use Rattle.course.specs.Cases.{caseFor}
 use Rattle.rules.specs.Rules.{IsOpen}
 use Rattle.table.specs.Calls.{caseOf}
 use Rattle.upkeep.proofs.Stands.{Stands}
-use Rattle.promises.proofs.Replies.{phase-open}
+use Rattle.upkeep.proofs.Replies.{phase-open}
 use Rattle.promises.proofs.FigureAlike.{waits}
 use Rattle.upkeep.proofs.Room.{room-left}
 use Rattle.upkeep.proofs.Unqueued.{waits-blocked}

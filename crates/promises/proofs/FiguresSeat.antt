@@ -30,7 +30,7 @@ use Rattle.course.specs.Steps.{goesOn, ended, seatAfter}
 use Rattle.table.specs.Calls.{openedSeat, caseOf, movedBy, isEnded, reportOf, resultCall}
 use Rattle.upkeep.proofs.Stands.{Stands, Upkeep}
 use Rattle.promises.specs.Histories.{World, opening, step, saucebell, begin, opened, stepReply, stepped, called}
-use Rattle.promises.proofs.Replies.{StepGranted, step-open, OpenGranted, open-shut}
+use Rattle.upkeep.proofs.Replies.{StepGranted, step-open, OpenGranted, open-shut}
 use Rattle.promises.proofs.Answers.{reports-ended}
 use Rattle.promises.proofs.Reached.{called-length, called-stands}
 

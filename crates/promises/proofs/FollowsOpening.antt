@@ -31,7 +31,7 @@ use Rattle.rules.specs.Rules.{Closed, PhaseRules}
 use Rattle.table.specs.Calls.{openedSeat, openCall}
 use Rattle.upkeep.proofs.Stands.{Stands}
 use Rattle.promises.specs.Figure1.{isSome, Transaction, start, Machine, idle, starting, pendingAt}
-use Rattle.promises.proofs.Replies.{open-any, open-shut}
+use Rattle.upkeep.proofs.Replies.{open-any, open-shut}
 use Rattle.promises.proofs.FigureAlike.{Becomes, Alike, changed}
 
 -- ---- a seat that is not open

@@ -29,7 +29,7 @@ use Rattle.table.specs.Calls.{holderOf, lineUp, viewOf, viewRefusal, slotViewCa
 use Rattle.upkeep.proofs.Stands.{Stands}
 use Rattle.promises.specs.Histories.{saucebell, World}
 use Rattle.promises.specs.Figure1.{isSome, Transaction, Machine, ownerShown, SameSeat, Same}
-use Rattle.promises.proofs.Replies.{phase-open, stands-test, step-open}
+use Rattle.upkeep.proofs.Replies.{phase-open, stands-test, step-open}
 use Rattle.promises.proofs.FigureLocks.{Owner}
 use Rattle.promises.proofs.FigureAlike.{holds, waits, SeatLike, Becomes, Alike}
 use Rattle.promises.proofs.FollowsStep.{open-or, step-follows, no-move, step-refused}

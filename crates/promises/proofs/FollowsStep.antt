@@ -29,7 +29,7 @@ use Rattle.table.specs.Calls.{caseOf, movedBy, imageBy, stepCall, stepImage}
 use Rattle.upkeep.proofs.Stands.{Stands}
 use Rattle.promises.specs.Figure1.{Locks, Line, code, line7, line14, line16, Transaction, transaction, Machine, move, atLine}
 use Rattle.promises.specs.Figure1.{becoming, moveFrom, moveOf, moved}
-use Rattle.promises.proofs.Replies.{open-phase, phase-open, StepRefused, step-any, step-open}
+use Rattle.upkeep.proofs.Replies.{open-phase, phase-open, StepRefused, step-any, step-open}
 use Rattle.promises.proofs.FigureLocks.{LocksLike}
 use Rattle.promises.proofs.FigureAlike.{Like, SeatLike, Becomes, Alike, becomes-kept, changed}
 use Rattle.promises.proofs.FigureTable.{Ground, caseBy, ground}

@@ -27,7 +27,7 @@ use Rattle.table.specs.declared.asking.Report.{Report}
 use Rattle.table.specs.Calls.{withSeat, openedSeat, caseOf, movedBy, imageBy}
 use Rattle.upkeep.proofs.Stands.{Stands}
 use Rattle.promises.specs.Histories.{Notes, notesOf, noting, saucebell, noted}
-use Rattle.promises.proofs.Replies.{phase-open}
+use Rattle.upkeep.proofs.Replies.{phase-open}
 use Rattle.promises.proofs.Good.{SameOn, Good, good-start, good-still}
 use Rattle.promises.proofs.GoodSteps.{case-known, steps-good}
 use Rattle.promises.proofs.GoodOthers.{others-keep, others-same}

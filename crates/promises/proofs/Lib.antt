@@ -1,4 +1,3 @@
-pub mod Replies
 pub mod Reached
 pub mod Answers
 pub mod Lowest

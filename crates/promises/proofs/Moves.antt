@@ -29,7 +29,7 @@ use Rattle.upkeep.proofs.Unqueued.{open-rules}
 use Rattle.upkeep.proofs.Stands.{Stands, Upkeep}
 use Rattle.promises.specs.Histories.{World, saucebell, begin, works, history}
 use Rattle.promises.specs.Demand3.{OpenIn, CanMove, SomeSeatMoves}
-use Rattle.promises.proofs.Replies.{open-phase, phase-open, step-open}
+use Rattle.upkeep.proofs.Replies.{open-phase, phase-open, step-open}
 use Rattle.promises.proofs.Reached.{after-length, history-stands}
 
 -- only a blocked step counts for nothing

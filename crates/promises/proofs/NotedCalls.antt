@@ -25,7 +25,7 @@ use Rattle.table.specs.Calls.{isEnded, reportOf, openedSeat, caseOf, movedBy, r
 use Rattle.upkeep.proofs.Stands.{Stands, Upkeep}
 use Rattle.promises.specs.Histories.{Call, opening, step, World, Notes, notesOf, saucebell, begin, viewed, noted}
 use Rattle.promises.specs.Histories.{opened, stepped, called, after, history}
-use Rattle.promises.proofs.Replies.{StepRefused, StepGranted, step-any, open-any}
+use Rattle.upkeep.proofs.Replies.{StepRefused, StepGranted, step-any, open-any}
 use Rattle.promises.proofs.Reached.{called-stands}
 use Rattle.upkeep.proofs.Unqueued.{open-rules}
 use Rattle.promises.proofs.Answers.{reports-ended, viewed-size}

@@ -22,7 +22,7 @@ use Rattle.table.specs.Calls.{caseOf, movedBy}
 use Rattle.upkeep.proofs.Stands.{Stands, Upkeep}
 use Rattle.promises.specs.Histories.{step, World, saucebell, works, stepped, called, after}
 use Rattle.promises.specs.Demand3.{Round, stepsOf}
-use Rattle.promises.proofs.Replies.{step-any, step-open}
+use Rattle.upkeep.proofs.Replies.{step-any, step-open}
 use Rattle.promises.proofs.Reached.{called-length, called-stands}
 use Rattle.promises.proofs.Moves.{blocked-case, unblocked}
 use Rattle.promises.proofs.Totals.{total, total-moved}

@@ -18,7 +18,7 @@ use Rattle.table.specs.Calls.{movedBy}
 use Rattle.upkeep.proofs.Stands.{Stands, Upkeep}
 use Rattle.promises.specs.Histories.{World, saucebell, begin, stepped, called, after, history}
 use Rattle.promises.specs.Demand3.{Rounds, stepsOf, stepsIn, mostRounds, AllEnd}
-use Rattle.promises.proofs.Replies.{open-phase, step-any}
+use Rattle.upkeep.proofs.Replies.{open-phase, step-any}
 use Rattle.promises.proofs.Reached.{after-append, after-length, after-stands, history-stands}
 use Rattle.promises.proofs.Totals.{total, total-most}
 use Rattle.promises.proofs.Rounds.{round-adds}

@@ -18,7 +18,7 @@ use Rattle.upkeep.proofs.Stands.{Stands, Upkeep}
 use Rattle.promises.specs.Histories.{Call, opening, step, World, saucebell}
 use Rattle.promises.specs.Histories.{ends, begin, opened, stepped, called, after, history}
 use Rattle.promises.specs.Demand2.{inTurn, Agree, Serial}
-use Rattle.promises.proofs.Replies.{phase-open, step-any, open-any}
+use Rattle.upkeep.proofs.Replies.{phase-open, step-any, open-any}
 use Rattle.promises.proofs.Reached.{called-length, called-stands}
 use Rattle.promises.proofs.GoodTables.{AllGood, counted-good, opened-good, moved-good}
 use Rattle.promises.proofs.SerialSteps.{Turn, turn-moved}

@@ -21,7 +21,7 @@ use Rattle.table.proofs.Fitting.{fits}
 use Rattle.upkeep.proofs.Stands.{Stands}
 use Rattle.promises.specs.Histories.{works}
 use Rattle.promises.specs.Demand3.{mostRounds}
-use Rattle.promises.proofs.Replies.{stands-test, phase-open}
+use Rattle.upkeep.proofs.Replies.{stands-test, phase-open}
 use Rattle.promises.proofs.CountCases.{counted}
 
 -- ---- of a list of seats

@@ -35,3 +35,5 @@ pub mod AlikeWants
 pub mod AlikeRuns
 pub mod AlikeSeats
 pub mod BehindLengths
+pub mod Replies
+pub mod Calls
