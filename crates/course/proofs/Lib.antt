@@ -1,4 +1,2 @@
-pub mod Acts
-pub mod Shapes
-pub mod Kept
 pub mod Known
+pub mod Alike

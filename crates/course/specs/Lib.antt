@@ -1,4 +1,3 @@
-pub mod Runs
 pub mod Wants
 pub mod Cases
 pub mod Steps

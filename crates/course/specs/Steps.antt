@@ -1,4 +1,4 @@
--- What a case does: to the seat, to the slot table, to the image.
+-- What a case does: to the seat, to the slot table, to the image; and with it the whole step.
 use Prim.Native.Nat.{ℕ, _+_, _≤_}
 use mathlib.Core.List.{List}
 use Rattle.slots.specs.declared.set.SlotSet.{SlotSet}
@@ -11,11 +11,14 @@ use Rattle.seats.specs.declared.seat.Tally.{Tally}
 use Rattle.seats.specs.declared.seat.Seat.{Seat}
 use Rattle.seats.specs.declared.slot_table.SlotTable.{SlotTable}
 use Rattle.seats.specs.Seats.{mostRestarts, mostWorking, blankRun, openedRun}
-use Rattle.seats.specs.SlotTables.{heldBy, taken, joinedBy, released}
+use Rattle.seats.specs.Queues.{waitsIn}
+use Rattle.seats.specs.SlotTables.{heldBy, queueOf, owned, taken, joinedBy, released}
 use Rattle.course.specs.declared.cases.Case.{Case}
 use Rattle.course.specs.declared.cases.Case.the-variants as case
-use Rattle.course.specs.Runs.{keptWrites, written, afterAct}
-use Rattle.course.specs.Wants.{actAt}
+use Rattle.runs.specs.Runs.{keptWrites, written, afterAct}
+use Rattle.course.specs.declared.turns.Turn.{Turn}
+use Rattle.course.specs.Wants.{actAt, wantOf, slotOf}
+use Rattle.course.specs.Cases.{caseFor, wordOf}
 
 -- ---- the seat
 
@@ -91,3 +94,18 @@ imageAfter case.Ran ρ img = img
 imageAfter (case.Took s) ρ img = img
 imageAfter case.Failed ρ img = img
 imageAfter (case.Restarted s) ρ img = img
+
+-- ---- all of it, of seat i: z is the seat and t the slot table
+
+module _ (own : ℕ → ℕ) where
+  abbrev pub caseIn : Seat → SlotTable → ℕ → Case
+  caseIn z t i =
+      caseFor (wantOf own z) (heldBy t i) (owned t) (waitsIn (queueOf t (slotOf (wantOf own z))) i)
+
+  unfoldable pub turnOf : Seat → SlotTable → List ℕ → ℕ → Turn
+  turnOf z t img i =
+      record {
+        word = wordOf (caseIn z t i);
+        seat = seatAfter (caseIn z t i) z (heldBy t i) img;
+        slots = slotsAfter (caseIn z t i) t i;
+      }

@@ -1,7 +1,7 @@
 // What a case does to the seat, to the slot table and to the image.
 use crate::Case;
-use crate::runs::after_instr;
-use crate::runs::write_kept;
+use runs::after_instr;
+use runs::write_kept;
 use script::Instr;
 use script::MAX_INSTRUCTIONS;
 use seats::Phase;
@@ -15,7 +15,7 @@ ghost use mathlib.Core.Path.{_≡_};
 ghost use Prim.Native.Nat.{_≤_};
 ghost use Rattle.script.specs.Scripts.{maxInstructions};
 ghost use Rattle.seats.specs.Seats.{mostRestarts, mostWorking};
-ghost use Rattle.course.specs.Runs.{afterAct};
+ghost use Rattle.runs.specs.Runs.{afterAct};
 ghost use Rattle.course.specs.Wants.{actAt};
 ghost use Rattle.course.specs.Steps.{worked, goesOn, restarted, ended, seatAfter, slotsAfter, imageAfter, Fits};
 

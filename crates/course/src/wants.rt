@@ -4,12 +4,14 @@ use script::Instr;
 use script::MAX_INSTRUCTIONS;
 use script::REGISTERS;
 use seats::Seat;
+use slots::CELLS;
 use slots::Cell;
-use slots::Owned;
+use slots::OwnerList;
 use slots::SLOTS;
 use slots::Slot;
+use slots::listed;
 ghost use mathlib.Core.Path.{_≡_};
-ghost use Rattle.slots.specs.Owners.{ownerOf};
+ghost use Rattle.slots.specs.Owners.{listed};
 ghost use Rattle.script.specs.Meaning.{actOf};
 ghost use Rattle.course.specs.Wants.{wantCell, wantAct, wantOf, slotOf};
 
@@ -38,27 +40,29 @@ impl Want {
     }
 }
 
-fn want_cell(c: Cell) -> Want
-    ensures { λ r. ⌜ r ≡ wantCell ownerOf (c .0) ⌝ }
+fn want_cell(c: Cell, owners: &OwnerList) -> Want
+    ensures { λ r. ⌜ r ≡ wantCell (listed (now (owners .entry))) (c .0) ⌝ }
 {
-    match slots::owner(c) {
-        Owned::By(s) => Want::Access(s),
-        Owned::TooHigh => Want::NoCell,
+    if c.0 < CELLS {
+        Want::Access(listed(owners, c))
+    } else {
+        Want::NoCell
     }
 }
 
-fn want_instr(x: Instr, regs: [u32; REGISTERS]) -> Want
-    ensures { λ r. ⌜ r ≡ wantAct ownerOf (actOf x regs) ⌝ }
+fn want_instr(x: Instr, regs: [u32; REGISTERS], owners: &OwnerList) -> Want
+    ensures { λ r. ⌜ r ≡ wantAct (listed (now (owners .entry))) (actOf x regs) ⌝ }
 {
     match x.access(regs) {
         Access::Nothing => Want::Nothing,
-        Access::Reads(_, c) => want_cell(c),
-        Access::Writes(c, _) => want_cell(c),
+        Access::Reads(_, c) => want_cell(c, owners),
+        Access::Writes(c, _) => want_cell(c, owners),
     }
 }
 
-pub fn want_of(z: Seat) -> Want
-    ensures { λ r. ⌜ r ≡ wantOf ownerOf z ⌝ }
+// By a lent owner list.
+pub fn want_of(z: Seat, owners: &OwnerList) -> Want
+    ensures { λ r. ⌜ r ≡ wantOf (listed (now (owners .entry))) z ⌝ }
 {
     let p = z.pending;
     if !p.is_empty() {
@@ -72,8 +76,8 @@ pub fn want_of(z: Seat) -> Want
     let regs = z.run.regs;
     if at < MAX_INSTRUCTIONS {
         let x = s.code[at];
-        want_instr(x, regs)
+        want_instr(x, regs, owners)
     } else {
-        want_instr(Instr::NONE, regs)
+        want_instr(Instr::NONE, regs, owners)
     }
 }

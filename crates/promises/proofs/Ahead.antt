@@ -21,8 +21,8 @@ use Rattle.script.proofs.Forward.{finish-end, finish-out, finish-next}
 use Rattle.seats.specs.declared.seat.Write.{Write}
 use Rattle.seats.specs.declared.seat.Run.{Run}
 use Rattle.seats.specs.Seats.{openedRun}
-use Rattle.course.specs.Runs.{keptWrites, written, seen, keeping, afterAct}
-use Rattle.course.proofs.Kept.{written-at, written-append, kept-keeping}
+use Rattle.runs.specs.Runs.{keptWrites, written, seen, keeping, afterAct}
+use Rattle.runs.proofs.Kept.{written-at, written-append, kept-keeping}
 
 -- where a run stands, as a place of the script run alone
 unfoldable pub placeOf : Run → List ℕ → Place

@@ -22,7 +22,7 @@ use Rattle.seats.specs.SlotTables.{heldBy, owned}
 use Rattle.course.specs.declared.wants.Want.{Want}
 use Rattle.course.specs.declared.wants.Want.the-variants.{Back, End, Nothing, Access, NoCell}
 use Rattle.course.specs.declared.cases.Word.the-variants as word
-use Rattle.course.specs.Runs.{keptWrites, written}
+use Rattle.runs.specs.Runs.{keptWrites, written}
 use Rattle.course.specs.Wants.{actAt, wantOf, slotOf}
 use Rattle.course.specs.Cases.{waiting, caseFor}
 use Rattle.course.proofs.Known.{Accesses, Runs, Wants, wants-known}

@@ -24,7 +24,7 @@ use Rattle.seats.proofs.Hands.{held-released, held-joined}
 use Rattle.course.specs.declared.wants.Want.the-variants.{Access}
 use Rattle.course.specs.declared.cases.Case.the-variants as case
 use Rattle.course.specs.declared.cases.Word.the-variants as word
-use Rattle.course.specs.Runs.{keptWrites, written}
+use Rattle.runs.specs.Runs.{keptWrites, written}
 use Rattle.course.specs.Wants.{actAt, wantOf}
 use Rattle.course.specs.Cases.{wordOf}
 use Rattle.course.specs.Steps.{restarted, ended, seatAfter, slotsAfter, imageAfter}

@@ -13,7 +13,7 @@ use Rattle.script.specs.Meaning.{actOf}
 use Rattle.seats.specs.declared.seat.Seat.{Seat}
 use Rattle.seats.specs.Seats.{openedRun}
 use Rattle.course.specs.declared.wants.Want.the-variants as want
-use Rattle.course.specs.Runs.{afterAct}
+use Rattle.runs.specs.Runs.{afterAct}
 use Rattle.course.specs.Wants.{actAt, wantAct, wantOf}
 use Rattle.course.specs.Steps.{goesOn}
 use Rattle.table.specs.Calls.{openedSeat}

@@ -23,7 +23,7 @@ use Rattle.course.specs.declared.wants.Want.the-variants as want
 use Rattle.course.specs.declared.cases.Case.{Case}
 use Rattle.course.specs.declared.cases.Case.the-variants as case
 use Rattle.course.specs.declared.cases.Word.the-variants as word
-use Rattle.course.specs.Runs.{afterAct}
+use Rattle.runs.specs.Runs.{afterAct}
 use Rattle.course.specs.Wants.{actAt, wantOf}
 use Rattle.course.specs.Cases.{caseFor, wordOf}
 use Rattle.course.specs.Steps.{goesOn, ended, seatAfter}

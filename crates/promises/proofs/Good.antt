@@ -18,8 +18,8 @@ use Rattle.script.specs.Meaning.{Act, local, reads, writes}
 use Rattle.script.specs.Alone.{end, committed, failed, inRange, alone}
 use Rattle.seats.specs.declared.seat.Run.{Run}
 use Rattle.seats.specs.Seats.{openedRun}
-use Rattle.course.specs.Runs.{keptWrites, written, keeping, afterAct}
-use Rattle.course.proofs.Kept.{after-same}
+use Rattle.runs.specs.Runs.{keptWrites, written, keeping, afterAct}
+use Rattle.runs.proofs.Kept.{after-same}
 use Rattle.promises.proofs.Ahead.{ahead, actOn, ahead-start, ahead-end, ahead-out, ahead-act}
 
 after-reading : (a : Act) (img : List ℕ) (ρ : Run) → afterAct a img ρ .reading ≡ ρ .reading

@@ -25,9 +25,9 @@ use Rattle.seats.proofs.Shape.{Whole}
 use Rattle.seats.proofs.Hands.{held-joined, held-released}
 use Rattle.course.specs.declared.cases.Case.{Case}
 use Rattle.course.specs.declared.cases.Case.the-variants as case
-use Rattle.course.specs.Runs.{keptWrites}
+use Rattle.runs.specs.Runs.{keptWrites}
 use Rattle.course.specs.Steps.{slotsAfter, imageAfter}
-use Rattle.course.proofs.Kept.{writesTo, unwritten}
+use Rattle.runs.proofs.Kept.{writesTo, unwritten}
 use Rattle.rules.specs.Rules.{IsOpen}
 use Rattle.upkeep.proofs.Stands.{Stands}
 use Rattle.promises.proofs.Good.{SameOn}

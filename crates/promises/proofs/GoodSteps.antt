@@ -34,7 +34,7 @@ use Rattle.seats.proofs.Hands.{held-joined}
 use Rattle.course.specs.declared.wants.Want.the-variants as want
 use Rattle.course.specs.declared.cases.Case.{Case}
 use Rattle.course.specs.declared.cases.Case.the-variants as case
-use Rattle.course.specs.Runs.{keptWrites, written, afterAct}
+use Rattle.runs.specs.Runs.{keptWrites, written, afterAct}
 use Rattle.course.specs.Wants.{actAt, wantOf, slotOf}
 use Rattle.course.specs.Steps.{restarted, ended, seatAfter, slotsAfter, imageAfter}
 use Rattle.course.proofs.Known.{Known, known, Runs, Accesses, known-want}

@@ -18,7 +18,7 @@ use Rattle.seats.specs.Tables.{noSeat, seatAt}
 use Rattle.course.specs.declared.cases.Case.{Case}
 use Rattle.course.specs.declared.cases.Case.the-variants as case
 use Rattle.course.specs.Cases.{wordOf}
-use Rattle.course.specs.Runs.{keptWrites, written}
+use Rattle.runs.specs.Runs.{keptWrites, written}
 use Rattle.course.specs.Steps.{ended, seatAfter, imageAfter}
 use Rattle.course.specs.Wants.{wantOf}
 use Rattle.course.proofs.Known.{Known}

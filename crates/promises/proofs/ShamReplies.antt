@@ -16,7 +16,7 @@ use Rattle.seats.specs.Seats.{openedRun}
 use Rattle.seats.specs.Tables.{seatAt}
 use Rattle.course.specs.declared.cases.Word.{Word}
 use Rattle.course.specs.declared.cases.Word.the-variants as word
-use Rattle.course.specs.Runs.{afterAct}
+use Rattle.runs.specs.Runs.{afterAct}
 use Rattle.promises.specs.Histories as histories
 use Rattle.promises.specs.Histories.{Library, World, opening, step, stepReply, stepped, history}
 use Rattle.promises.specs.Figure1.{Transaction, Machine, lock, start, becoming, accessing, completing, byAct, atLine, idle, moveFrom}

@@ -31,7 +31,7 @@ use Rattle.seats.specs.Seats.{isOpen, openedRun}
 use Rattle.seats.specs.Tables.{seatAt}
 use Rattle.course.specs.declared.cases.Word.{Word}
 use Rattle.course.specs.declared.cases.Word.the-variants as word
-use Rattle.course.specs.Runs.{keptWrites, written, afterAct}
+use Rattle.runs.specs.Runs.{keptWrites, written, afterAct}
 use Rattle.rules.specs.Rules.{concerned}
 use Rattle.table.specs.declared.asking.SlotView.{SlotView}
 use Rattle.promises.specs.Histories.{Library, Call, opening, step, World, stepReply, history}

@@ -14,7 +14,7 @@ use Rattle.slots.proofs.Counting.{empty-out, none-empty}
 use Rattle.seats.specs.declared.slot_table.SlotTable.{SlotTable}
 use Rattle.seats.specs.SlotTables.{unionOf, owned}
 use Rattle.seats.proofs.Owned.{held-owned, owner}
-use Rattle.soundness.specs.Tests.{common, apart}
+use Rattle.rule_one.specs.Tests.{common, apart}
 use Rattle.rules.proofs.Both.{in-common, common-in}
 
 -- ---- held sets, as those of a slot table without queues

@@ -23,7 +23,8 @@ use Rattle.seats.specs.declared.seat.Run.{Run}
 use Rattle.seats.specs.declared.seat.Tally.{Tally}
 use Rattle.seats.specs.declared.seat.Seat.{Seat}
 use Rattle.seats.specs.Seats.{noWrite, blankRun, noTally, blankSeat}
-use Rattle.soundness.specs.Tests.{all, isNoInstr, isNoWrite, isBlankScript, noRegisters, noWrites, isBlankRun, isNoTally, blankTest}
+use Rattle.rule_one.specs.Tests.{all}
+use Rattle.rule_six.specs.Tests.{isNoInstr, isNoWrite, isBlankScript, noRegisters, noWrites, isBlankRun, isNoTally, blankTest}
 use Rattle.rules.proofs.Every.{three, four, all-at}
 use Rattle.rules.proofs.Shaped.{ShapedSeat}
 

@@ -5,7 +5,7 @@ use Rattle.slots.specs.declared.set.SlotSet.{SlotSet}
 use Rattle.slots.specs.Sets.{difference}
 use Rattle.slots.proofs.Truth.{is-true}
 use Rattle.slots.proofs.Members.{In, in-not-out, out, in-difference, difference-in}
-use Rattle.soundness.specs.Tests.{common}
+use Rattle.rule_one.specs.Tests.{common}
 
 module _ (S R : SlotSet) (s : ℕ) where
   pub in-common : In (common S R) s → In S s × In R s

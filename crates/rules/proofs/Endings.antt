@@ -17,7 +17,8 @@ use Rattle.seats.specs.SlotTables.{heldBy}
 use Rattle.seats.specs.Seats.{mostRestarts, mostWorking}
 use Rattle.seats.specs.Tables.{seatAt}
 use Rattle.rules.specs.Rules.{Closed, Ended}
-use Rattle.soundness.specs.Tests.{isQueued, closedTest, endedTest}
+use Rattle.rule_one.specs.Tests.{isQueued}
+use Rattle.rule_six.specs.Tests.{closedTest, endedTest}
 use Rattle.rules.proofs.Every.{three, four}
 use Rattle.rules.proofs.Queued.{waits-queued, queued-waits}
 

@@ -7,7 +7,7 @@ use native.Mathlib.Omega.{arith}
 use lib.Dec.{eqb}
 use borrow.Author.Tests.{eqb-true, eqb-false}
 use Rattle.slots.proofs.Truth.{and-l, and-r, and-i, split}
-use Rattle.soundness.specs.Tests.{all}
+use Rattle.rule_one.specs.Tests.{all}
 
 -- ---- three tests and four
 

@@ -9,9 +9,9 @@ use Rattle.slots.specs.Sets.{has, removing}
 use Rattle.slots.proofs.Truth.{is-false, not-both, split}
 use Rattle.slots.proofs.Members.{In, Out, in-not-out, in-removing, removing-here, removing-other}
 use Rattle.seats.specs.Queues.{isEntry}
-use Rattle.soundness.specs.declared.lines.Unmet.{Unmet}
+use Rattle.rule_one.specs.declared.lines.Unmet.{Unmet}
 use Rattle.rules.specs.Rules.{Distinct}
-use Rattle.soundness.specs.Tests.{unmet, met, metAll}
+use Rattle.rule_one.specs.Tests.{unmet, met, metAll}
 use Rattle.rules.proofs.Entries.{entry-cases, entry-first, entry-later, no-entry}
 
 -- ---- one seat more

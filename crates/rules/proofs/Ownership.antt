@@ -24,7 +24,7 @@ use Rattle.seats.proofs.Lines.{Line, waits-none, entries-length, entries-cases}
 use Rattle.seats.proofs.Shape.{Whole}
 use Rattle.seats.proofs.Owned.{held-owned, owner}
 use Rattle.rules.specs.Rules.{Owns, Waits, IsOpen, Distinct, Rule1, PhaseRules}
-use Rattle.soundness.specs.Tests.{apart, waiters, allSeats, unmet, metAll, lengthsTest, queuesTest, isQueued}
+use Rattle.rule_one.specs.Tests.{apart, waiters, allSeats, unmet, metAll, lengthsTest, queuesTest, isQueued}
 use Rattle.rules.proofs.Every.{all-at, all-of}
 use Rattle.rules.proofs.Shaped.{Shaped}
 use Rattle.rules.proofs.Apart.{apart-sets, sets-apart}

@@ -20,7 +20,8 @@ use Rattle.seats.specs.declared.table.Table.{Table}
 use Rattle.seats.specs.SlotTables.{heldBy}
 use Rattle.seats.specs.Tables.{seatAt}
 use Rattle.rules.specs.Rules.{Rule3}
-use Rattle.soundness.specs.Tests.{all, common, atOpening, pendingTest}
+use Rattle.rule_one.specs.Tests.{all, common}
+use Rattle.soundness.specs.Tests.{atOpening, pendingTest}
 use Rattle.rules.proofs.Every.{three, all-at, all-of}
 use Rattle.rules.proofs.Both.{in-common, common-in}
 

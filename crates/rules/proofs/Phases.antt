@@ -15,8 +15,11 @@ use Rattle.seats.specs.Tables.{seatAt}
 use Rattle.seats.proofs.Shape.{Whole}
 use Rattle.course.specs.Wants.{wantOf, slotOf}
 use Rattle.rules.specs.Rules.{OpenRules, Closed, PhaseRules}
-use Rattle.soundness.specs.Tests.{isQueued, placeTest, pendingTest, waitTest, queuedSet, openTest, closedTest, endedTest}
-use Rattle.soundness.specs.Tests.{blankTest, phaseTest, seatTest}
+use Rattle.rule_one.specs.Tests.{isQueued}
+use Rattle.rule_six.specs.Tests.{closedTest, endedTest}
+use Rattle.soundness.specs.Tests.{placeTest, pendingTest, waitTest, queuedSet, openTest}
+use Rattle.rule_six.specs.Tests.{blankTest}
+use Rattle.soundness.specs.Tests.{phaseTest, seatTest}
 use Rattle.rules.proofs.Every.{four}
 use Rattle.rules.proofs.Shaped.{ShapedSeat}
 use Rattle.rules.proofs.Blanks.{blank-is, blank-passes}

@@ -15,7 +15,7 @@ use Rattle.seats.specs.Queues.{entries, isEntry, waitsIn}
 use Rattle.seats.specs.SlotTables.{queueOf}
 use Rattle.seats.proofs.Lines.{entry-append}
 use Rattle.rules.specs.Rules.{Distinct}
-use Rattle.soundness.specs.Tests.{waiters, isQueued}
+use Rattle.rule_one.specs.Tests.{waiters, isQueued}
 use Rattle.rules.proofs.Entries.{no-entry, distinct-left, distinct-right, distinct-apart, distinct-append}
 
 module _ (t : SlotTable) where

@@ -9,7 +9,8 @@ use Rattle.seats.specs.declared.table.Table.{Table}
 use Rattle.seats.specs.Queues.{seats}
 use Rattle.seats.specs.Tables.{seatAt}
 use Rattle.rules.specs.Rules.{PhaseRules, Sound}
-use Rattle.soundness.specs.Tests.{all, apart, queuesTest, seatTest, soundTest}
+use Rattle.rule_one.specs.Tests.{all, apart, queuesTest}
+use Rattle.soundness.specs.Tests.{seatTest, soundTest}
 use Rattle.rules.proofs.Every.{three, all-at, all-of}
 use Rattle.rules.proofs.Shaped.{Shaped}
 use Rattle.rules.proofs.Queued.{queues-single}

@@ -22,7 +22,8 @@ use Rattle.seats.specs.Tables.{seatAt}
 use Rattle.seats.proofs.Shape.{Whole, no-queue}
 use Rattle.course.specs.Wants.{wantOf, slotOf}
 use Rattle.rules.specs.Rules.{Owns, Waits, queuedFor, Rule4}
-use Rattle.soundness.specs.Tests.{isQueued, waitTest, queuedSet}
+use Rattle.rule_one.specs.Tests.{isQueued}
+use Rattle.soundness.specs.Tests.{waitTest, queuedSet}
 use Rattle.rules.proofs.Every.{three}
 use Rattle.rules.proofs.Queued.{waits-queued, queued-waits}
 

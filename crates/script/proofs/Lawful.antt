@@ -3,35 +3,24 @@
 -- from i + 1 on, which is a turn of the code's loop. Refusals 8 and 9 are not given just where there are few enough and all are legal.
 use Prim.Native.Nat.{ℕ, zero, suc, _+_, _-_, _≤_, _<_}
 use mathlib.Core.Path.{_≡_, refl, sym, ap, _∙_}
-use mathlib.Core.Bool.{Bool, true, false, not, _&&_, and-false}
+use mathlib.Core.Bool.{Bool, true, false, not, _&&_, and-false, or-false}
 use mathlib.Core.List.{List, _∷_, _++_}
 use native.Mathlib.Omega.{arith}
 use native.Mathlib.Numerals.{add-one}
 use lib.ListN.{length, getD, drop, drop-of-length-le}
 use lib.Seq.{drop-cons}
 use lib.Dec.{ltb, leb, eqb}
-use borrow.Author.Tests.{ltb-true, ltb-false, leb-true, leb-false, eqb-true, lt-ltb, le-ltb, le-leb, lt-leb, ne-eqb, not-false}
+use borrow.Author.Tests.{ltb-true, ltb-false, leb-true, eqb-true, eqb-false, lt-ltb, le-ltb, le-leb, lt-leb, ne-eqb, not-false}
 use Rattle.slots.specs.Refusals.{Check, _when_, refusal}
 use Rattle.slots.proofs.Truth.{and-l, and-r, alike, split}
 use Rattle.script.specs.declared.code.Instr.{Instr}
 use Rattle.script.specs.declared.code.Script.{Script}
-use Rattle.script.specs.Scripts.{maxInstructions, instr, noInstr, instrs}
-use Rattle.script.specs.Legal.{isRegister, isOp, legalAt, legalFrom, legal, codeChecks}
+use Rattle.script.specs.Scripts.{maxInstructions, k16, instr, noInstr, instrs}
+use Rattle.script.specs.Legal.{isRegister, isCell, isOp, twoRegisters, legalAt, legalFrom, legal, codeChecks}
 use Rattle.slots.proofs.Checks.{passed, none-given}
 use Rattle.script.proofs.Scripts.{length-instrs, instr-is}
 
 -- ---- one instruction
-
--- an op that is none of 1 to n, as the last arm of a `match` has it
-unfoldable pub Other : ℕ → ℕ → Type 0
-Other op zero = Unit
-Other op (suc n) = Other op n × (op ≡ suc n → ⊥)
-
-other : (op n : ℕ) → Other op n → (m : ℕ) → 1 ≤ m → m ≤ n → eqb op m ≡ false
-unfolding Other
-other op zero h m l r = absurd (omega arith)
-other op (suc n) h m l r =
-    split (leb m n) (λ t. other op n (h .0) m l (leb-true m n t)) (λ t. ne-eqb op m (λ e. h .1 (e ∙ omega (arith, leb-false m n t))))
 
 module _ (k i : ℕ) (x : Instr) where
   pub no-register : isRegister (x .a) ≡ false → false ≡ legalAt k i x
@@ -42,12 +31,45 @@ module _ (k i : ℕ) (x : Instr) where
   pub of-op : {n : ℕ} → x .op ≡ n → {r : Bool} → legalAt k i (instr n (x .a) (x .b) (x .c)) ≡ r → r ≡ legalAt k i x
   of-op e q = sym (ap (λ (n : ℕ). legalAt k i (instr n (x .a) (x .b) (x .c))) e ∙ q)
 
-  pub no-op : Other (x .op) 8 → false ≡ legalAt k i x
-  unfolding legalAt
-  no-op h =
-      let no : (m : ℕ) → (leb 1 m && leb m 8) ≡ true → eqb (x .op) m ≡ false =
-      λ m t. other (x .op) 8 h m (leb-true 1 m (and-l _ _ t)) (leb-true m 8 (and-r (leb 1 m) _ t)) in
-      simp (no 1 refl, no 2 refl, no 3 refl, no 4 refl, no 5 refl, no 6 refl, no 7 refl, no 8 refl, and-false)
+  -- of a known register a: ops 0 and 1, 2 and 3, 4 to 7, 8, and those above
+  module _ (r : isRegister (x .a) ≡ true) where
+    pub lowest : x .op ≤ 1 → eqb (x .op) 1 ≡ legalAt k i x
+    unfolding legalAt
+    lowest h =
+        split (eqb (x .op) 1)
+        (λ e. e ∙ of-op (eqb-true (x .op) 1 e) (simp r))
+        (λ e. let n : x .op ≡ 0 = below (eqb-false (x .op) 1 e) in e ∙ of-op n (simp r))
+      where
+        below : (x .op ≡ 1 → ⊥) → x .op ≡ 0
+        below u = omega arith
+
+    pub cells : 1 < x .op → x .op ≤ 3 → isCell (k16 x) ≡ legalAt k i x
+    unfolding legalAt
+    cells l h =
+        split (eqb (x .op) 2)
+        (λ e. of-op (eqb-true (x .op) 2 e) (simp (r, or-false)))
+        (λ e. let u : (x .op ≡ 2 → ⊥) = eqb-false (x .op) 2 e in of-op {n = 3} (omega arith) (simp (r, or-false)))
+
+    pub pairs : 3 < x .op → x .op < 8 → twoRegisters x ≡ legalAt k i x
+    unfolding legalAt twoRegisters
+    pairs l h =
+        split (eqb (x .op) 4) (λ e. of-op (eqb-true (x .op) 4 e) (simp (r, or-false)))
+        (λ e. split (eqb (x .op) 5) (λ f. of-op (eqb-true (x .op) 5 f) (simp (r, or-false)))
+        (λ f. split (eqb (x .op) 6) (λ g. of-op (eqb-true (x .op) 6 g) (simp (r, or-false)))
+        (λ g. let u : (x .op ≡ 4 → ⊥) = eqb-false (x .op) 4 e in
+        let v : (x .op ≡ 5 → ⊥) = eqb-false (x .op) 5 f in
+        let w : (x .op ≡ 6 → ⊥) = eqb-false (x .op) 6 g in
+        of-op {n = 7} (omega arith) (simp (r, or-false)))))
+
+    pub skips : x .op ≡ 8 → (isRegister (x .b) && leb (i + 1 + x .c) k) ≡ legalAt k i x
+    unfolding legalAt
+    skips e = of-op e (simp r)
+
+    pub no-op : 8 < x .op → false ≡ legalAt k i x
+    unfolding legalAt
+    no-op h =
+        let no : (m : ℕ) → leb m 8 ≡ true → eqb (x .op) m ≡ false = λ m t. ne-eqb (x .op) m (λ e. omega (arith, leb-true m 8 t)) in
+        simp (no 1 refl, no 2 refl, no 3 refl, no 4 refl, no 5 refl, no 6 refl, no 7 refl, no 8 refl, and-false)
 
   pub skip-fits : legalAt k i x ≡ true → isOp x 8 ≡ true → i + 1 + x .c ≤ k
   unfolding legalAt

@@ -37,7 +37,7 @@ impl Instr {
         }
     }
 
-    // Legal at position i of k instructions.
+    // Legal at position i of k instructions: ops 4 to 7 ask the same, and so do 2 and 3.
     fn is_legal(self, i: usize, k: usize) -> bool
         ensures { λ r. ⌜ r ≡ legalAt k i self ⌝ }
     {
@@ -45,16 +45,19 @@ impl Instr {
             return false;
         }
         let op = self.op;
-        match op {
-            1 => true,
-            2 => is_cell(word(self.b, self.c)),
-            3 => is_cell(word(self.b, self.c)),
-            4 => self.two_registers(),
-            5 => self.two_registers(),
-            6 => self.two_registers(),
-            7 => self.two_registers(),
-            8 => self.skip_is_legal(i, k),
-            _ => false,
+        if op < 8 {
+            if 3 < op {
+                return self.two_registers();
+            }
+            if 1 < op {
+                return is_cell(word(self.b, self.c));
+            }
+            return op == 1;
+        }
+        if op == 8 {
+            self.skip_is_legal(i, k)
+        } else {
+            false
         }
     }
 

@@ -13,7 +13,7 @@ use borrow.Author.Tests.{eqb-true, ltb-true, ltb-false, le-leb, lt-leb}
 use Rattle.slots.specs.Sizes.{cells, slots}
 use Rattle.slots.specs.Refusals.{refusal}
 use Rattle.slots.specs.Sets.{tally, slot}
-use Rattle.slots.specs.Owners.{ownerOf, Says, says, said, ownerRefusal, ownerSays, OwnersBelow, EachOwnsSixteen}
+use Rattle.slots.specs.Owners.{ownerOf, Lists, Says, says, said, ownerRefusal, ownerSays, OwnersBelow, EachOwnsSixteen}
 use Rattle.slots.specs.declared.Slot.{Slot}
 use Rattle.slots.specs.declared.owning.Owned.{Owned}
 use Rattle.slots.specs.declared.owning.Owned.the-variants.{By, TooHigh}
@@ -63,13 +63,10 @@ owners-below c = mod-lt _ (zero-lt-suc 63)
 abbrev pub ruled : ℕ → ℕ → Bool
 ruled c s = eqb s (ownerOf c)
 
--- a list that passes the test answers by the rule
-pub answers : (list : List ℕ) (c s : ℕ) → c < cells → length list ≡ cells → every ruled 0 list ≡ true → s ≡ getD list c 0
-    → said (By (slot s)) ≡ ownerSays c
-unfolding said
-answers list c s h n e r =
-    let right : s ≡ ownerOf c = r ∙ eqb-true (getD list c 0) (ownerOf c) (every-at ruled list e c (omega arith)) in
-    ap (says 0) right ∙ sym (says-by c h)
+-- a list that passes the test has the owner of each cell
+pub lists : (list : List ℕ) → length list ≡ cells → every ruled 0 list ≡ true → Lists list
+unfolding Lists
+lists list n e c h = eqb-true (getD list c 0) (ownerOf c) (every-at ruled list e c (omega arith))
 
 -- ---- each slot owns sixteen cells: counted from cell 0 up
 

@@ -3,6 +3,7 @@ use mathlib.Core.Path.{_≡_}
 use Prim.Native.Nat.{ℕ, _+_, _*_, _/_, _%_, _<_}
 use mathlib.Core.List.{List, [], _∷_}
 use lib.Dec.{leb, eqb}
+use lib.ListN.{getD}
 use Rattle.slots.specs.Sizes.{cells, slots}
 use Rattle.slots.specs.Refusals.{Check, _when_, refusal, granted}
 use Rattle.slots.specs.Sets.{tally}
@@ -21,6 +22,14 @@ recordOf c = c / 8
 -- the owner of cell c, of record r, is slot (r + 5 × (r div 64)) mod 64
 unfoldable pub ownerOf : ℕ → ℕ
 ownerOf c = (recordOf c + 5 * (recordOf c / 64)) % slots
+
+-- entry c of a list, and 0 past its end
+abbrev pub listed : List ℕ → ℕ → ℕ
+listed l c = getD l c 0
+
+-- the list gives each cell its owner
+unfoldable pub Lists : List ℕ → Type 0
+Lists l = (c : ℕ) → c < cells → listed l c ≡ ownerOf c
 
 -- an answer in the description's numbers: the refusal, 0 for none, and the slot
 pub record Says : Type 0 where

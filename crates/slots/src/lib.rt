@@ -6,7 +6,10 @@ mod owner_list;
 mod owning;
 mod set;
 
+pub use owner_list::OwnerList;
 pub use owning::Owned;
+pub use owning::all_owners;
+pub use owning::listed;
 pub use owning::owner;
 pub use set::SlotSet;
 

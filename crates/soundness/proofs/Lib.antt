@@ -1,4 +1,3 @@
-pub mod Loops
-pub mod Meets
 pub mod Bounds
 pub mod ByPhase
+pub mod Alike

@@ -1,42 +1,45 @@
 // Rules 2 to 5, of an open seat.
-use crate::held::common;
 use course::want_of;
+use rule_one::common;
 use script::REGISTERS;
 use seats::Run;
 use seats::Seat;
 use seats::Tally;
+use slots::CELLS;
 use slots::Cell;
-use slots::Owned;
+use slots::OwnerList;
 use slots::Slot;
 use slots::SlotSet;
+use slots::listed;
 ghost use mathlib.Core.Path.{_≡_};
-ghost use mathlib.Core.Bool.{cond};
+ghost use mathlib.Core.Bool.{true, cond};
 ghost use Prim.Native.Nat.{_≤_};
 ghost use Rattle.slots.specs.Sizes.{slots};
-ghost use Rattle.slots.specs.Owners.{ownerOf};
+ghost use Rattle.slots.specs.Owners.{listed};
 ghost use Rattle.script.specs.Scripts.{maxInstructions};
-ghost use Rattle.soundness.specs.Tests.{cellHeld, keptTest, placeTest, atOpening, pendingTest, waitTest, queuedSet, restartsTest, workingTest, countTest, openTest};
+ghost use Rattle.soundness.specs.Tests.{cellHeld, keptTest, placeTest, atOpening, pendingTest, waitTest, restartsTest, workingTest, countTest, openTest};
 
-fn cell_held(held: SlotSet, c: Cell) -> bool
-    ensures { λ r. ⌜ r ≡ cellHeld ownerOf held (c .0) ⌝ }
+fn cell_held(held: SlotSet, c: Cell, owners: &OwnerList) -> bool
+    ensures { λ r. ⌜ r ≡ cellHeld (listed (now (owners .entry))) held (c .0) ⌝ }
 {
-    match slots::owner(c) {
-        Owned::By(s) => held.has(s),
-        Owned::TooHigh => false,
+    if c.0 < CELLS {
+        held.has(listed(owners, c))
+    } else {
+        false
     }
 }
 
 // Rule 2: the kept writes go to cells whose slots are held.
-fn kept_sound(run: Run, held: SlotSet) -> bool
+fn kept_sound(run: Run, held: SlotSet, owners: &OwnerList) -> bool
     requires { ⌜ run .kept ≤ maxInstructions ⌝ }
-    ensures { λ r. ⌜ r ≡ keptTest ownerOf run held ⌝ }
+    ensures { λ r. ⌜ r ≡ keptTest (listed (now (owners .entry))) run held ⌝ }
 {
     let n = run.kept;
     let mut k = 0;
     while k < n {
         let w = run.writes[k];
         let c = w.cell;
-        if !cell_held(held, c) {
+        if !cell_held(held, c, owners) {
             return false;
         }
         k += 1;
@@ -45,8 +48,8 @@ fn kept_sound(run: Run, held: SlotSet) -> bool
 }
 
 // Rule 2.
-fn place_sound(z: Seat, held: SlotSet) -> bool
-    ensures { λ r. ⌜ r ≡ placeTest ownerOf z held ⌝ }
+fn place_sound(z: Seat, held: SlotSet, owners: &OwnerList) -> bool
+    ensures { λ r. ⌜ r ≡ placeTest (listed (now (owners .entry))) z held ⌝ }
 {
     let script = z.script;
     if script.refusal() != 0 {
@@ -59,7 +62,7 @@ fn place_sound(z: Seat, held: SlotSet) -> bool
     if run.at < run.kept {
         return false;
     }
-    kept_sound(run, held)
+    kept_sound(run, held, owners)
 }
 
 fn at_opening(run: Run) -> bool
@@ -100,13 +103,10 @@ fn pending_sound(run: Run, held: SlotSet, pending: SlotSet) -> bool
     common(held, pending).without(s).is_empty()
 }
 
-// Rule 4.
-fn wait_sound(queued: bool, here: bool, held: SlotSet, s: Slot) -> bool
-    ensures { λ r. ⌜ r ≡ waitTest queued here held (s .0) ⌝ }
+// Rule 4, of a seat that is queued: for the slot s that it wants, if `here` says so.
+fn wait_sound(here: bool, held: SlotSet, s: Slot) -> bool
+    ensures { λ r. ⌜ r ≡ waitTest true here held (s .0) ⌝ }
 {
-    if !queued {
-        return true;
-    }
     if !here {
         return false;
     }
@@ -114,16 +114,6 @@ fn wait_sound(queued: bool, here: bool, held: SlotSet, s: Slot) -> bool
         return false;
     }
     held.above(s).is_empty()
-}
-
-fn queued_set(queued: bool, s: Slot) -> SlotSet
-    ensures { λ r. ⌜ r ≡ queuedSet queued (s .0) ⌝ }
-{
-    if queued {
-        SlotSet::EMPTY.with(s)
-    } else {
-        SlotSet::EMPTY
-    }
 }
 
 fn restarts_sound(restarts: u32, l: u32) -> bool
@@ -169,10 +159,11 @@ fn count_sound(
     working_sound(r, t.working, k, at, pending.count(), l, q)
 }
 
-pub fn open_sound(z: Seat, held: SlotSet, queued: bool, here: bool) -> bool
-    ensures { λ r. ⌜ r ≡ openTest ownerOf z held queued here ⌝ }
+// What a seat wants is asked of a queued one alone.
+pub fn open_sound(z: Seat, held: SlotSet, queued: bool, here: bool, owners: &OwnerList) -> bool
+    ensures { λ r. ⌜ r ≡ openTest (listed (now (owners .entry))) z held queued here ⌝ }
 {
-    if !place_sound(z, held) {
+    if !place_sound(z, held, owners) {
         return false;
     }
     let run = z.run;
@@ -180,17 +171,15 @@ pub fn open_sound(z: Seat, held: SlotSet, queued: bool, here: bool) -> bool
     if !pending_sound(run, held, pending) {
         return false;
     }
-    let s = want_of(z).slot();
-    if !wait_sound(queued, here, held, s) {
+    let tally = z.tally;
+    let k = z.script.len;
+    let at = run.at;
+    if !queued {
+        return count_sound(tally, k, at, held, pending, SlotSet::EMPTY);
+    }
+    let s = want_of(z, owners).slot();
+    if !wait_sound(here, held, s) {
         return false;
     }
-    let tally = z.tally;
-    count_sound(
-        tally,
-        z.script.len,
-        run.at,
-        held,
-        pending,
-        queued_set(queued, s),
-    )
+    count_sound(tally, k, at, held, pending, SlotSet::EMPTY.with(s))
 }

@@ -1,48 +1,29 @@
 // The whole test.
-use crate::closed::blank_sound;
-use crate::closed::closed_sound;
-use crate::closed::ended_sound;
-use crate::held::held_apart;
-use crate::lines::lengths_sound;
-use crate::lines::meet_all;
 use crate::open::open_sound;
 use course::want_of;
+use rule_one::slots_sound;
+use rule_six::blank_rule;
+use rule_six::ended_rule;
 use seats::Phase;
 use seats::SEATS;
 use seats::Seat;
 use seats::Table;
+use slots::OwnerList;
 use slots::Slot;
 use slots::SlotSet;
+use slots::all_owners;
 ghost use mathlib.Core.Path.{_≡_};
-ghost use mathlib.Core.Bool.{false};
-ghost use Rattle.slots.specs.Owners.{ownerOf};
+ghost use Rattle.slots.specs.Owners.{ownerOf, listed};
 ghost use Rattle.soundness.specs.Tests.{phaseTest, soundTest};
 
-fn ended_rule(z: Seat, held: SlotSet, queued: bool) -> bool
-    ensures { λ r. ⌜ r ≡ phaseTest ownerOf Phase.Failed z held queued false ⌝ }
-{
-    let tally = z.tally;
-    if closed_sound(z, held, queued) {
-        ended_sound(tally)
-    } else {
-        false
-    }
-}
-
 // A seat that holds `held`: whether it waits at all, and whether for the slot it wants.
-fn seat_sound(z: Seat, held: SlotSet, queued: bool, here: bool) -> bool
-    ensures { λ r. ⌜ r ≡ phaseTest ownerOf (z .phase) z held queued here ⌝ }
+pub fn seat_sound(z: Seat, held: SlotSet, queued: bool, here: bool, owners: &OwnerList) -> bool
+    ensures { λ r. ⌜ r ≡ phaseTest (listed (now (owners .entry))) (z .phase) z held queued here ⌝ }
 {
     let p = z.phase;
     match p {
-        Phase::Blank => {
-            if closed_sound(z, held, queued) {
-                blank_sound(z)
-            } else {
-                false
-            }
-        }
-        Phase::Open => open_sound(z, held, queued, here),
+        Phase::Blank => blank_rule(z, held, queued),
+        Phase::Open => open_sound(z, held, queued, here, owners),
         Phase::Committed => ended_rule(z, held, queued),
         Phase::Failed => ended_rule(z, held, queued),
     }
@@ -52,17 +33,12 @@ pub fn sound(t: Table) -> bool
     ensures { λ r. ⌜ r ≡ soundTest ownerOf t ⌝ }
 {
     let slots = t.slots;
-    if !held_apart(slots) {
-        return false;
-    }
-    if !lengths_sound(slots, slots.owned()) {
-        return false;
-    }
-    let u = meet_all(slots);
+    let u = slots_sound(slots);
     if !u.fine {
         return false;
     }
     let free = u.seats;
+    let owners = all_owners();
     let mut i: u8 = 0;
     while i < SEATS as u8 {
         let k = i as usize;
@@ -70,9 +46,9 @@ pub fn sound(t: Table) -> bool
         let queued = !free.has(Slot(i as u32));
         let mut here = false;
         if queued {
-            here = slots.waits(i, want_of(z).slot());
+            here = slots.waits(i, want_of(z, &owners).slot());
         }
-        if !seat_sound(z, slots.held[k], queued, here) {
+        if !seat_sound(z, slots.held[k], queued, here, &owners) {
             return false;
         }
         i += 1;

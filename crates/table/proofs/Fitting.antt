@@ -1,18 +1,14 @@
 -- An open seat of a sound table fits. Its script is legal, so it has at most 64 instructions, and position and kept writes are at most that;
 -- it is concerned with at most 64 slots, so it has at most 63 restarts; and both products in the bound of its working count are then at most
--- 4,032. A step that is not refused is of such a seat.
+-- 4,032.
 use Prim.Native.Nat.{ℕ, _*_, _≤_, _<_}
 use mathlib.Core.Path.{_≡_}
 use mathlib.Core.Logic.{_⊎_, inl, inr}
-use mathlib.Core.Bool.{Bool, true, false, not, cond, false≢true}
-use mathlib.Core.List.{[]}
+use mathlib.Core.Bool.{Bool, true, false, cond, false≢true}
 use native.Mathlib.Omega.{arith}
 use native.Mathlib.Nat.{mul-le-mul}
-use lib.Dec.{leb, eqb}
-use borrow.Author.Tests.{not-false, leb-false}
-use Rattle.slots.specs.Sizes.{cells, slots}
+use Rattle.slots.specs.Sizes.{slots}
 use Rattle.slots.specs.Sets.{has, union, smallest}
-use Rattle.slots.proofs.Checks.{none-given}
 use Rattle.slots.proofs.Counting.{size-le}
 use Rattle.seats.specs.declared.seat.Phase.{Phase}
 use Rattle.seats.specs.declared.seat.Phase.the-variants.{Blank, Open, Committed, Failed}
@@ -27,7 +23,6 @@ use Rattle.soundness.specs.Tests.{soundTest}
 use Rattle.soundness.proofs.Bounds.{script-short}
 use Rattle.rules.proofs.Same.{test-rules}
 use Rattle.rules.proofs.Shaped.{Shaped}
-use Rattle.table.specs.Calls.{stepRefusal}
 
 few : {r n : ℕ} → (r ≡ 0) ⊎ (r < n) → n ≤ slots → r ≤ mostRestarts
 few (inl e) h = omega arith
@@ -63,14 +58,3 @@ module _ (own : ℕ → ℕ) (t : Table) (i : ℕ) where
 
   pub fits : Shaped t → soundTest own t ≡ true → i < seats → isOpen (seatAt t i .phase) ≡ true → Fits (seatAt t i)
   fits w e l o = open-fits (opened (seatAt t i .phase) o (test-rules own t w e .seats i l))
-
-  -- a step is refused where it is not of an open seat of a sound table
-  pub accepted : (n : ℕ) → Shaped t → stepRefusal own t n i ≡ 0 → (i < seats) × Fits (seatAt t i)
-  unfolding stepRefusal
-  accepted n w e =
-      let a = none-given 1 (not (soundTest own t)) _ (λ z. omega arith) e in
-      let b = none-given 2 (not (eqb n cells)) _ (λ z. omega arith) (a .1) in
-      let d = none-given 3 (leb seats i) _ (λ z. omega arith) (b .1) in
-      let o = none-given 5 (not (isOpen (seatAt t i .phase))) [] (λ z. omega arith) (d .1) in
-      let l : i < seats = leb-false seats i (d .0) in
-      (l, fits w (not-false _ (a .0)) l (not-false _ (o .0)))

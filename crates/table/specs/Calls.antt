@@ -16,19 +16,17 @@ use Rattle.seats.specs.declared.seat.Phase.the-variants.{Blank, Open, Committed
 use Rattle.seats.specs.declared.seat.Seat.{Seat}
 use Rattle.seats.specs.declared.slot_table.SlotTable.{SlotTable}
 use Rattle.seats.specs.declared.table.Table.{Table}
-use Rattle.seats.specs.Queues.{seats, entries, waitsIn}
-use Rattle.seats.specs.SlotTables.{heldBy, queueOf, owned}
+use Rattle.seats.specs.Queues.{seats, entries}
+use Rattle.seats.specs.SlotTables.{heldBy, queueOf}
 use Rattle.seats.specs.Seats.{isOpen, openedRun, noTally}
 use Rattle.seats.specs.Tables.{seatAt}
 use Rattle.course.specs.declared.cases.Case.{Case}
 use Rattle.course.specs.declared.cases.Word.{Word}
 use Rattle.course.specs.declared.cases.Word.the-variants as word
-use Rattle.course.specs.Wants.{wantOf, slotOf}
-use Rattle.course.specs.Cases.{caseFor, wordOf}
-use Rattle.course.specs.Steps.{seatAfter, slotsAfter, imageAfter}
+use Rattle.course.specs.Cases.{wordOf}
+use Rattle.course.specs.Steps.{caseIn, seatAfter, slotsAfter, imageAfter}
 use Rattle.soundness.specs.Tests.{soundTest}
 use Rattle.table.specs.declared.opening.Opened.{Opened}
-use Rattle.table.specs.declared.stepping.Moved.{Moved}
 use Rattle.table.specs.declared.stepping.Stepped.{Stepped}
 use Rattle.table.specs.declared.asking.Report.{Report}
 use Rattle.table.specs.declared.asking.SlotView.{SlotView}
@@ -42,6 +40,15 @@ withSeat t i z = record { seats = set (t .seats) i z; slots = t .slots }
 -- register 0 is the reading given, the others are zero, position is 0; counts begin at zero
 unfoldable pub openedSeat : Script → ℕ → Seat
 openedSeat s reading = record { phase = Open; script = s; run = openedRun reading; pending = none; tally = noTally }
+
+-- the reply to a step, and the table after it
+pub record Moved : Type 0 where
+  pub word : Word
+  pub table : Table
+
+-- the answer to a refused step
+abbrev pub notStepped : ℕ → Table → Stepped
+notStepped n t = record { number = n; word = word.None; table = t }
 
 module _ (own : ℕ → ℕ) (t : Table) where
   abbrev pub openChecks : ℕ → List ℕ → List Check
@@ -61,9 +68,7 @@ module _ (own : ℕ → ℕ) (t : Table) where
 
   -- which case a step of seat i is
   unfoldable pub caseOf : ℕ → Case
-  caseOf i =
-      caseFor (wantOf own (seatAt t i)) (heldBy (t .slots) i) (owned (t .slots))
-      (waitsIn (queueOf (t .slots) (slotOf (wantOf own (seatAt t i)))) i)
+  caseOf i = caseIn own (seatAt t i) (t .slots) i
 
   unfoldable pub movedBy : List ℕ → ℕ → Moved
   movedBy img i =

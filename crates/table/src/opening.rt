@@ -8,8 +8,10 @@ use seats::Table;
 use seats::Tally;
 use slots::SlotSet;
 ghost use mathlib.Core.Path.{_≡_};
+ghost use mathlib.Core.Bool.{true};
 ghost use Rattle.slots.specs.Owners.{ownerOf};
-ghost use Rattle.table.specs.Calls.{openedSeat, withSeat, openCall};
+ghost use Rattle.soundness.specs.Tests.{soundTest};
+ghost use Rattle.table.specs.Calls.{openedSeat, openCall};
 
 // The table with the seat opened, or a refusal's number and the table as it came.
 pub struct Opened {
@@ -17,6 +19,7 @@ pub struct Opened {
     pub table: Table,
 }
 
+// The seat with a script and its reading, at the beginning.
 fn opened_seat(script: Script, reading: u32) -> Seat
     ensures { λ r. ⌜ r ≡ openedSeat script reading ⌝ }
 {
@@ -30,29 +33,17 @@ fn opened_seat(script: Script, reading: u32) -> Seat
     }
 }
 
-// The table with a seat opened; there is no seat above 15.
-pub fn open_seat(table: Table, seat: u8, script: Script, reading: u32) -> Table
-    ensures { λ r. ⌜ r ≡ withSeat table seat (openedSeat script reading) ⌝ }
-{
-    let i = seat as usize;
-    let mut t = table;
-    if i < SEATS {
-        t.seats[i] = opened_seat(script, reading);
-    }
-    t
-}
-
-pub fn open(table: Table, seat: u32, reading: u32, frame: &[u8]) -> Opened
+// An opening on a table that is known to be sound, which is not tested again.
+pub fn sound_open(table: Table, seat: u32, reading: u32, frame: &[u8]) -> Opened
+    requires { ⌜ soundTest ownerOf table ≡ true ⌝ }
     ensures { λ r. ⌜ r ≡ openCall ownerOf table seat reading (now (frame .entry)) ⌝ }
 {
-    if !soundness::sound(table) {
-        return Opened { number: 1, table };
-    }
     if SEATS as u32 <= seat {
         return Opened { number: 3, table };
     }
+    let mut t = table;
     let i = seat as usize;
-    let z = table.seats[i];
+    let z = t.seats[i];
     let p = z.phase;
     if p.is_open() {
         return Opened { number: 4, table };
@@ -63,8 +54,16 @@ pub fn open(table: Table, seat: u32, reading: u32, frame: &[u8]) -> Opened
         return Opened { number, table };
     }
     let s = read.script;
-    Opened {
-        number,
-        table: open_seat(table, seat as u8, s, reading),
+    t.seats[i] = opened_seat(s, reading);
+    Opened { number, table: t }
+}
+
+pub fn open(table: Table, seat: u32, reading: u32, frame: &[u8]) -> Opened
+    ensures { λ r. ⌜ r ≡ openCall ownerOf table seat reading (now (frame .entry)) ⌝ }
+{
+    if soundness::sound(table) {
+        sound_open(table, seat, reading, frame)
+    } else {
+        Opened { number: 1, table }
     }
 }

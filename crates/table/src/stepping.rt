@@ -1,93 +1,73 @@
 // One step of a seat.
 use course::Word;
-use course::case_for;
-use course::image_after;
-use course::seat_after;
-use course::slots_after;
-use course::want_of;
+use course::take_turn;
 use seats::SEATS;
 use seats::Table;
 use slots::CELLS;
+use slots::all_owners;
 ghost use mathlib.Core.Path.{_≡_};
-ghost use Prim.Native.Nat.{_<_};
-ghost use lib.ListN.{length};
+ghost use mathlib.Core.Bool.{true};
 ghost use Rattle.slots.specs.Owners.{ownerOf};
-ghost use Rattle.seats.specs.Queues.{seats};
-ghost use Rattle.seats.specs.Tables.{seatAt};
-ghost use Rattle.course.specs.Steps.{Fits};
-ghost use Rattle.table.specs.Calls.{movedBy, imageBy, stepRefusal, stepCall, stepImage};
+ghost use Rattle.soundness.specs.Tests.{soundTest};
+ghost use Rattle.table.specs.Calls.{notStepped, stepCall, stepImage};
 
-// The reply and the table after a step.
-pub struct Moved {
-    pub word: Word,
-    pub table: Table,
-}
-
-// The same, or a refusal's number, no word and the table as it came.
+// The reply and the table after a step, or a refusal's number, no word and the table as it came.
 pub struct Stepped {
     pub number: u32,
     pub word: Word,
     pub table: Table,
 }
 
-// A step of an open seat of a sound table, for whoever knows that it is one.
-pub fn move_seat(table: Table, image: &mut [u32], seat: u8) -> Moved
-    requires { ⌜ (seat < seats) × Fits (seatAt table seat) ⌝ }
-    ensures { λ r. ⌜ (r ≡ movedBy ownerOf table (now (image .entry)) seat) × (now (image .exit) ≡ imageBy ownerOf table (now (image .entry)) seat) ⌝ }
+fn not_stepped(number: u32, table: Table) -> Stepped
+    ensures { λ r. ⌜ r ≡ notStepped number table ⌝ }
 {
-    let mut t = table;
-    let i = seat as usize;
-    let z = t.seats[i];
-    let slots = t.slots;
-    let held = slots.held[i];
-    let w = want_of(z);
-    let c = case_for(w, held, slots.owned(), slots.waits(seat, w.slot()));
-    t.seats[i] = seat_after(c, z, held, image);
-    let after = slots_after(c, slots, seat);
-    t.slots = after;
-    let run = z.run;
-    image_after(c, run, image);
-    Moved {
-        word: c.word(),
-        table: t,
+    Stepped {
+        number,
+        word: Word::None,
+        table,
     }
 }
 
-fn step_refusal(table: Table, cells: usize, seat: u32) -> u32
-    ensures { λ r. ⌜ r ≡ stepRefusal ownerOf table cells seat ⌝ }
+// A step of a table that is known to be sound, which is not tested again. What is indexed is a copy,
+// `t`: so the table goes on to the callees as it lies, and is copied for none of them.
+pub fn sound_step(table: Table, image: &mut [u32], seat: u32) -> Stepped
+    requires { ⌜ soundTest ownerOf table ≡ true ⌝ }
+    ensures { λ r. ⌜ (r ≡ stepCall ownerOf table (now (image .entry)) seat) × (now (image .exit) ≡ stepImage ownerOf table (now (image .entry)) seat) ⌝ }
 {
-    if !soundness::sound(table) {
-        return 1;
-    }
-    if cells != CELLS as usize {
-        return 2;
+    if image.len() != CELLS as usize {
+        return not_stepped(2, table);
     }
     if SEATS as u32 <= seat {
-        return 3;
+        return not_stepped(3, table);
     }
+    let mut t = table;
     let i = seat as usize;
-    let z = table.seats[i];
+    let z = t.seats[i];
     let p = z.phase;
-    if p.is_open() { 0 } else { 5 }
+    if !p.is_open() {
+        return not_stepped(5, table);
+    }
+    let slots = t.slots;
+    let owners = all_owners();
+    let turn = take_turn(z, slots, image, seat as u8, &owners);
+    let word = turn.word;
+    let y = turn.seat;
+    t.seats[i] = y;
+    let after = turn.slots;
+    t.slots = after;
+    Stepped {
+        number: 0,
+        word,
+        table: t,
+    }
 }
 
 pub fn step(table: Table, image: &mut [u32], seat: u32) -> Stepped
     ensures { λ r. ⌜ (r ≡ stepCall ownerOf table (now (image .entry)) seat) × (now (image .exit) ≡ stepImage ownerOf table (now (image .entry)) seat) ⌝ }
 {
-    let number = step_refusal(table, image.len(), seat);
-    if number != 0 {
-        return Stepped {
-            number,
-            word: Word::None,
-            table,
-        };
-    }
-    let m = move_seat(table, image, seat as u8);
-    let word = m.word;
-    let t = m.table;
-    Stepped {
-        number,
-        word,
-        table: t,
+    if soundness::sound(table) {
+        sound_step(table, image, seat)
+    } else {
+        not_stepped(1, table)
     }
 }

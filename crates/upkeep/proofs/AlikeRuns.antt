@@ -8,8 +8,8 @@ use Rattle.slots.specs.Owners.{cell}
 use Rattle.script.specs.Meaning.{Act, local, reads, writes}
 use Rattle.seats.specs.declared.seat.Run.{Run}
 use Rattle.seats.specs.declared.seat.Write.{Write}
-use Rattle.course.specs.Runs.{keptWrites, valueAfter, seen, keeping, afterAct}
-use Rattle.course.proofs.Kept.{kept-keeping}
+use Rattle.runs.specs.Runs.{keptWrites, valueAfter, seen, keeping, afterAct}
+use Rattle.runs.proofs.Kept.{kept-keeping}
 
 pub record AlikeRun (ρ σ : Run) : Type 0 where
   pub reading : ρ .reading ≡ σ .reading

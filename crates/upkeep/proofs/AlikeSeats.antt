@@ -17,7 +17,7 @@ use Rattle.seats.specs.declared.seat.Run.{Run}
 use Rattle.seats.specs.declared.seat.Seat.{Seat}
 use Rattle.seats.specs.declared.seat.Tally.{Tally}
 use Rattle.seats.specs.Seats.{blankRun, openedRun}
-use Rattle.course.specs.Runs.{afterAct}
+use Rattle.runs.specs.Runs.{afterAct}
 use Rattle.course.specs.Wants.{actAt}
 use Rattle.course.specs.Steps.{worked, goesOn, restarted, ended}
 use Rattle.upkeep.proofs.AlikeTables.{AlikeSeat}

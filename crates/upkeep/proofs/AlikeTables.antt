@@ -11,7 +11,7 @@ use Rattle.seats.specs.declared.table.Table.{Table}
 use Rattle.seats.specs.Queues.{seats, entries}
 use Rattle.seats.specs.SlotTables.{heldBy, queueOf}
 use Rattle.seats.specs.Tables.{seatAt}
-use Rattle.course.specs.Runs.{keptWrites}
+use Rattle.runs.specs.Runs.{keptWrites}
 
 pub record AlikeSeat (z y : Seat) : Type 0 where
   pub phase : z .phase ≡ y .phase

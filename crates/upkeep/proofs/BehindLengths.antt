@@ -25,7 +25,7 @@ use Rattle.seats.specs.Tables.{noSeat, seatAt}
 use Rattle.course.specs.declared.wants.Want.{Want}
 use Rattle.course.specs.declared.cases.Case.{Case}
 use Rattle.course.specs.declared.cases.Case.the-variants as case
-use Rattle.course.specs.Runs.{written}
+use Rattle.runs.specs.Runs.{written}
 use Rattle.course.specs.Wants.{wantOf, slotOf}
 use Rattle.course.specs.Cases.{caseFor}
 use Rattle.course.specs.Steps.{seatAfter, imageAfter}

@@ -10,9 +10,9 @@ use Rattle.seats.specs.declared.table.Table.{Table}
 use Rattle.seats.specs.Tables.{seatAt}
 use Rattle.course.specs.declared.cases.Case.{Case}
 use Rattle.course.specs.declared.cases.Case.the-variants as case
-use Rattle.course.specs.Runs.{keptWrites}
+use Rattle.runs.specs.Runs.{keptWrites}
 use Rattle.course.specs.Steps.{imageAfter}
-use Rattle.course.proofs.Kept.{written-length}
+use Rattle.runs.proofs.Kept.{written-length}
 use Rattle.table.specs.Calls.{openCall, caseOf, imageBy, stepCall, stepImage}
 use Rattle.upkeep.proofs.Stands.{Stands, Upkeep}
 use Rattle.upkeep.proofs.Replies.{step-any, open-any}

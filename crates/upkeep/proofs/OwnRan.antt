@@ -30,7 +30,7 @@ use Rattle.seats.specs.declared.seat.Run.{Run}
 use Rattle.seats.specs.declared.seat.Seat.{Seat}
 use Rattle.seats.specs.declared.seat.Write.{Write}
 use Rattle.seats.specs.Seats.{noWrite}
-use Rattle.course.specs.Runs.{keeping, afterAct}
+use Rattle.runs.specs.Runs.{keeping, afterAct}
 use Rattle.course.specs.Wants.{actAt}
 use Rattle.course.specs.Steps.{goesOn}
 use Rattle.course.proofs.Known.{Runs}

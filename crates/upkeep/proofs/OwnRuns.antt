@@ -18,7 +18,7 @@ use Rattle.seats.specs.SlotTables.{heldBy, taken, released}
 use Rattle.seats.specs.Tables.{seatAt}
 use Rattle.course.specs.declared.wants.Want.the-variants.{Nothing, Access}
 use Rattle.course.specs.declared.cases.Case.the-variants as case
-use Rattle.course.specs.Runs.{afterAct}
+use Rattle.runs.specs.Runs.{afterAct}
 use Rattle.course.specs.Wants.{actAt, wantOf}
 use Rattle.course.specs.Steps.{goesOn, restarted, seatAfter, slotsAfter}
 use Rattle.course.proofs.Known.{Accesses, Runs, known-want}

@@ -18,7 +18,7 @@ use Rattle.seats.specs.declared.seat.Seat.{Seat}
 use Rattle.seats.specs.Seats.{noWrite, blankRun, openedRun, blankSeat}
 use Rattle.course.specs.declared.cases.Case.{Case}
 use Rattle.course.specs.declared.cases.Case.the-variants as case
-use Rattle.course.specs.Runs.{keeping, afterAct}
+use Rattle.runs.specs.Runs.{keeping, afterAct}
 use Rattle.course.specs.Wants.{actAt}
 use Rattle.course.specs.Steps.{goesOn, restarted, ended, seatAfter}
 use Rattle.rules.proofs.Shaped.{ShapedSeat}

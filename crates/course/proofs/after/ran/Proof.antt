@@ -1,7 +1,7 @@
 -- `ran` performs the instruction at the position. Past the code's array there is no instruction, and there the code performs none.
 use borrow.Author.Needs.{needs}
 use Rattle.course.specs.Wants.{actAt}
-use Rattle.course.proofs.Shapes.{past-code}
+use Rattle.runs.proofs.Shapes.{past-code}
 use Rattle.course.proofs.after.ran.Statement.{statement}
 use Rattle.course.proofs.after.ran.Tie as tie
 

@@ -4,7 +4,7 @@ use mathlib.Core.Path.{sym, _∙_}
 use borrow.Author.Needs.{needs}
 use Rattle.script.specs.Meaning.{actOf}
 use Rattle.course.specs.Wants.{wantAct}
-use Rattle.course.proofs.Acts.{told-local, told-reads, told-writes}
+use Rattle.runs.proofs.Acts.{told-local, told-reads, told-writes}
 use Rattle.course.proofs.wants.want_instr.Statement.{statement}
 use Rattle.course.proofs.wants.want_instr.Tie as tie
 

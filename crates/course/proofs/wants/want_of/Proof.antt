@@ -7,7 +7,7 @@ use borrow.Author.Needs.{needs}
 use Rattle.slots.specs.Sets.{isEmpty}
 use Rattle.course.specs.declared.wants.Want.the-variants.{Back}
 use Rattle.course.specs.Wants.{wantOf, actAt}
-use Rattle.course.proofs.Shapes.{past-code}
+use Rattle.runs.proofs.Shapes.{past-code}
 use Rattle.course.proofs.wants.want_of.Statement.{statement}
 use Rattle.course.proofs.wants.want_of.Tie as tie
 

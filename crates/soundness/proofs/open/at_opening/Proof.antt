@@ -9,8 +9,9 @@ use lib.ListN.{getD}
 use borrow.Author.Tests.{eq-eqb, ne-eqb}
 use Rattle.script.specs.Scripts.{registers}
 use Rattle.script.specs.Meaning.{openingRegisters}
-use Rattle.soundness.specs.Tests.{all, atOpening}
-use Rattle.soundness.proofs.Loops.{all-none, all-more, all-done, all-fails}
+use Rattle.rule_one.specs.Tests.{all}
+use Rattle.soundness.specs.Tests.{atOpening}
+use Rattle.rule_one.proofs.Loops.{all-none, all-more, all-done, all-fails}
 use Rattle.soundness.proofs.open.at_opening.Statement.{statement}
 use Rattle.soundness.proofs.open.at_opening.Tie as tie
 

@@ -6,7 +6,7 @@ use borrow.Author.Needs.{needs}
 use Rattle.slots.specs.Sizes.{slots}
 use Rattle.slots.proofs.Counting.{size-le}
 use Rattle.soundness.specs.Tests.{countTest}
-use Rattle.soundness.proofs.Loops.{failed, passed}
+use Rattle.rule_one.proofs.Loops.{failed, passed}
 use Rattle.soundness.proofs.Bounds.{restarts-few}
 use Rattle.soundness.proofs.open.count_sound.Statement.{statement}
 use Rattle.soundness.proofs.open.count_sound.Tie as tie

@@ -5,18 +5,20 @@ use mathlib.Core.Path.{_≡_, sym}
 use mathlib.Core.Bool.{Bool, true}
 use native.Mathlib.Omega.{arith}
 use lib.ListN.{getD}
-use Rattle.slots.specs.Owners.{ownerOf}
+use denote.Ref.{now}
+use Rattle.slots.specs.Owners.{listed}
 use Rattle.seats.specs.Seats.{noWrite}
-use Rattle.soundness.specs.Tests.{all, cellHeld, keptTest}
-use Rattle.soundness.proofs.Loops.{failed, passed, all-none, all-more, all-done, all-fails}
+use Rattle.rule_one.specs.Tests.{all}
+use Rattle.soundness.specs.Tests.{cellHeld, keptTest}
+use Rattle.rule_one.proofs.Loops.{failed, passed, all-none, all-more, all-done, all-fails}
 use Rattle.soundness.proofs.open.kept_sound.Statement.{statement}
 use Rattle.soundness.proofs.open.kept_sound.Tie as tie
 
 abbrev Inv-loop : tie.InvT-loop
-Inv-loop held run n k₀ k = (k ≤ run .kept) × (all (λ j. cellHeld ownerOf held (getD (run .writes) j noWrite .cell .0)) k ≡ true)
+Inv-loop held owners run n k₀ k = (k ≤ run .kept) × (all (λ j. cellHeld (listed owners) held (getD (run .writes) j noWrite .cell .0)) k ≡ true)
 
 abbrev μ-loop : tie.MeasureT-loop
-μ-loop held run n k₀ k = run .kept - k
+μ-loop held owners run n k₀ k = run .kept - k
 
 loop-holds : tie.Need-loop-holds Inv-loop μ-loop
 loop-holds c = (omega arith, all-none _)
@@ -35,7 +37,7 @@ unfolding keptTest
 returns c =
     let b = c .before .before .before .before .before in
     let a = b .before .args in
-    let f : ℕ → Bool = λ j. cellHeld ownerOf (a .held) (getD (a .t1 .writes) j noWrite .cell .0) in
+    let f : ℕ → Bool = λ j. cellHeld (listed (now (a .owners))) (a .held) (getD (a .t1 .writes) j noWrite .cell .0) in
     sym (all-fails f (b .loop .k) _ (failed (c .before .cell-held .ensures) (c .if1 .taken)) (omega arith))
 
 add-k : tie.Need-add-k Inv-loop μ-loop

@@ -3,7 +3,7 @@
 use mathlib.Core.Path.{sym, _∙_}
 use borrow.Author.Needs.{needs}
 use Rattle.soundness.specs.Tests.{pendingTest}
-use Rattle.soundness.proofs.Loops.{failed, passed}
+use Rattle.rule_one.proofs.Loops.{failed, passed}
 use Rattle.soundness.proofs.open.pending_sound.Statement.{statement}
 use Rattle.soundness.proofs.open.pending_sound.Tie as tie
 

@@ -1,9 +1,6 @@
--- `seat_sound` has an arm for each phase, and each arm is the line of the definition for its phase. A blank seat is asked first whether it
--- is closed.
-use mathlib.Core.Path.{sym, ap, _∙_}
-use mathlib.Core.Bool.{Bool, _&&_}
+-- `seat_sound` has an arm for each phase, and each arm is the line of the definition for its phase.
+use mathlib.Core.Path.{_∙_}
 use borrow.Author.Needs.{needs}
-use Rattle.soundness.specs.Tests.{blankTest}
 use Rattle.soundness.proofs.ByPhase.{of-blank, of-open, of-committed, of-failed}
 use Rattle.soundness.proofs.whole.seat_sound.Statement.{statement}
 use Rattle.soundness.proofs.whole.seat_sound.Tie as tie
@@ -11,11 +8,8 @@ use Rattle.soundness.proofs.whole.seat_sound.Tie as tie
 enum-told : tie.Need-enum-told
 enum-told c = search needs
 
-closed-sound-requires : tie.Need-closed-sound-requires
-closed-sound-requires c κs = search needs
-
-blank-sound-requires : tie.Need-blank-sound-requires
-blank-sound-requires c κs = search needs
+blank-rule-requires : tie.Need-blank-rule-requires
+blank-rule-requires c κs = search needs
 
 enum-told-2 : tie.Need-enum-told-2
 enum-told-2 c = search needs
@@ -36,33 +30,23 @@ ended-rule-requires-2 : tie.Need-ended-rule-requires-2
 ended-rule-requires-2 c κs = search needs
 
 returns : tie.Need-returns
-returns c =
-    let b = c .before .before .before in
-    let closed = sym (c .before .before .closed-sound .ensures) ∙ c .before .if1 .taken in
-    c .blank-sound .ensures ∙ sym (ap (λ (x : Bool). x && blankTest (b .before .before .args .z)) closed) ∙ of-blank _ _ _ _ _ (b .enum-told .given .1)
+returns c = c .blank-rule .ensures ∙ of-blank _ _ _ _ _ _ (c .before .enum-told .given .1)
 
 returns-2 : tie.Need-returns-2
-returns-2 c =
-    let b = c .before .before .before .before in
-    let closed = sym (c .before .closed-sound .ensures) ∙ c .if1 .left in
-    sym (ap (λ (x : Bool). x && blankTest (b .args .z)) closed) ∙ of-blank _ _ _ _ _ (c .before .before .enum-told .given .1)
+returns-2 c = c .open-sound .ensures ∙ of-open _ _ _ _ _ _ (c .before .enum-told2 .given .1)
 
 returns-3 : tie.Need-returns-3
-returns-3 c = c .open-sound .ensures ∙ of-open _ _ _ _ _ (c .before .enum-told2 .given .1)
+returns-3 c = c .ended-rule .ensures ∙ of-committed _ _ _ _ _ _ (c .before .enum-told3 .given .1)
 
 returns-4 : tie.Need-returns-4
-returns-4 c = c .ended-rule .ensures ∙ of-committed _ _ _ _ _ (c .before .enum-told3 .given .1)
-
-returns-5 : tie.Need-returns-5
-returns-5 c = c .ended-rule2 .ensures ∙ of-failed _ _ _ _ _ (c .before .enum-told4 .given .1)
+returns-4 c = c .ended-rule2 .ensures ∙ of-failed _ _ _ _ _ _ (c .before .enum-told4 .given .1)
 
 pub seat-sound-spec : {M : Type 1} → statement M
 seat-sound-spec =
     tie.close
     (tie.spec
     enum-told
-    closed-sound-requires
-    blank-sound-requires
+    blank-rule-requires
     enum-told-2
     open-sound-requires
     enum-told-3
@@ -72,5 +56,4 @@ seat-sound-spec =
     returns
     returns-2
     returns-3
-    returns-4
-    returns-5)
+    returns-4)

@@ -2,7 +2,7 @@
 -- the refusal is 0, and the report is read from the seat.
 use borrow.Author.Tests.{le-leb, lt-leb}
 use Rattle.slots.specs.Refusals.{refusal}
-use Rattle.soundness.proofs.Loops.{failed, passed}
+use Rattle.rule_one.proofs.Loops.{failed, passed}
 use Rattle.table.specs.Calls.{resultRefusal, resultCall}
 use borrow.Author.Needs.{needs}
 use Rattle.table.proofs.asking.result.Statement.{statement}

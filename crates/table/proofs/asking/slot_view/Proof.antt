@@ -3,7 +3,7 @@
 use mathlib.Core.Path.{sym}
 use borrow.Author.Tests.{lt-ltb, le-ltb, le-leb, lt-leb}
 use Rattle.slots.specs.Refusals.{refusal}
-use Rattle.soundness.proofs.Loops.{failed, passed}
+use Rattle.rule_one.proofs.Loops.{failed, passed}
 use Rattle.table.specs.Calls.{viewRefusal, slotViewCall}
 use borrow.Author.Needs.{needs}
 use Rattle.table.proofs.asking.slot_view.Statement.{statement}

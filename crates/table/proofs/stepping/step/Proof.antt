@@ -1,59 +1,34 @@
--- `step` gives a refusal's number, or else moves the seat: a step that is not refused is of an open seat of a sound table, and that one fits
--- (`Fitting`).
-use Prim.Native.Nat.{_<_}
+-- Where the test passes, the table is sound and the step is that of a sound table; where it does not, the step is refused by 1.
 use mathlib.Core.Path.{sym, _∙_}
 use native.Mathlib.Omega.{arith}
-use borrow.Author.Tests.{eq-eqb, ne-eqb}
+use denote.Ref.{now}
 use Rattle.slots.specs.Owners.{ownerOf}
-use Rattle.seats.specs.Queues.{seats}
-use Rattle.seats.specs.Tables.{seatAt}
-use Rattle.course.specs.Steps.{Fits}
-use Rattle.rules.proofs.Shaped.{shaped}
-use Rattle.table.specs.Calls.{stepCall, stepImage}
-use Rattle.table.proofs.Fitting.{accepted}
+use Rattle.table.proofs.Steppings.{unsound, refused}
 use borrow.Author.Needs.{needs}
 use Rattle.table.proofs.stepping.step.Statement.{statement}
 use Rattle.table.proofs.stepping.step.Tie as tie
 
-granted-seat : (c : tie.Else1) → let a = c .before .before .before .args in (a .seat < seats) × Fits (seatAt (a .table) (a .seat))
-granted-seat c =
-    let b = c .before .before .before in
-    accepted ownerOf (b .args .table) (b .args .seat) _ (shaped _ _ (b .good .0)) (sym (c .before .step-refusal .ensures) ∙ c .if1 .left)
+sound-requires : tie.Need-sound-requires
+sound-requires c κs = search needs
 
-step-refusal-requires : tie.Need-step-refusal-requires
-step-refusal-requires c κs = search needs
+sound-step-requires : tie.Need-sound-step-requires
+sound-step-requires c κs = sym (c .before .before .sound .ensures) ∙ c .before .if1 .taken
 
-returns : tie.Need-returns
-unfolding stepCall stepImage
-returns c =
-    let e = c .before .step-refusal .ensures in
-    let n = ne-eqb _ 0 (rw e at (c .if1 .taken)) in
-    (rw (e, n), rw n)
-
-cast-move-seat : tie.Need-cast-move-seat
-cast-move-seat c = let l = granted-seat (c .before) .0 in omega arith
-
-move-seat-requires : tie.Need-move-seat-requires
-move-seat-requires c κs = granted-seat (c .before)
+not-stepped-requires : tie.Need-not-stepped-requires
+not-stepped-requires c κs = search needs
 
 same-length : tie.Need-same-length
 same-length c = search needs
 
+returns : tie.Need-returns
+returns c = search needs
+
 returns-2 : tie.Need-returns-2
-unfolding stepCall stepImage
 returns-2 c =
-    let e = c .before .before .before .before .before .before .step-refusal .ensures in
-    let y = eq-eqb _ _ (sym e ∙ c .before .before .before .before .before .if1 .left) in
-    let m = c .before .before .before .move-seat .ensures in
-    (rw (e, y, m .0), rw y (m .1))
+    let b = c .before .before in
+    let a = b .before .before .args in
+    let r = refused ownerOf (a .table) (now (a .image)) (a .seat) (unsound ownerOf _ _ _ (sym (b .sound .ensures) ∙ c .before .if1 .left)) (λ z. omega arith) in
+    (c .not-stepped .ensures ∙ r .0, r .1)
 
 pub step-spec : {M : Type 1} → statement M
-step-spec =
-    tie.close
-    (tie.spec
-    step-refusal-requires
-    returns
-    cast-move-seat
-    move-seat-requires
-    same-length
-    returns-2)
+step-spec = tie.close (tie.spec sound-requires sound-step-requires not-stepped-requires same-length returns returns-2)
