@@ -1,0 +1,17 @@
+pub mod Rising
+pub mod Putting
+pub mod Openings
+pub mod Letters
+pub mod Items
+pub mod LengthLines
+pub mod LengthReplies
+pub mod LengthSheets
+pub mod BoundListing
+pub mod SheetLines
+pub mod WorldAfter
+pub mod ListFrames
+pub mod ListItems
+pub mod ListLine
+pub mod ListTurns
+pub mod ListWhole
+pub mod ListFits

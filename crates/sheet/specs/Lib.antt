@@ -1,0 +1,6 @@
+pub mod Lines
+pub mod Words
+pub mod Listings
+pub mod Bounds
+pub mod Calls
+pub mod Turns
