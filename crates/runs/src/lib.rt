@@ -30,7 +30,7 @@ fn value_after(run: Run, c: Cell, v: u32) -> u32
 }
 
 // A cell as the seat sees it.
-pub fn seen(run: Run, image: &[u32], c: Cell) -> u32
+fn seen(run: Run, image: &[u32], c: Cell) -> u32
     requires { ⌜ run .kept ≤ maxInstructions ⌝ }
     ensures { λ r. ⌜ r ≡ seen run (now (image .entry)) (c .0) ⌝ }
 {

@@ -1,47 +1,18 @@
 -- A listing of items is as long as its replies and what follows them: at most 24 bytes for each item in front of the first bad one, and then
--- the cells and the end, or a bad line, which is shorter. The image keeps its 1,024 cells, since a commit only sets cells.
+-- the cells and the end, or a bad line, which is shorter. The image keeps its 1,024 cells (`step-length`).
 use Prim.Native.Nat.{ℕ, suc, _+_, _*_, _≤_}
 use mathlib.Core.Path.{_≡_, refl, _∙_}
-use mathlib.Core.Bool.{Bool, true, false, cond}
+use mathlib.Core.Bool.{cond}
 use mathlib.Core.List.{List, [], _∷_, _++_}
 use native.Mathlib.Omega.{arith}
-use lib.Dec.{eqb}
 use lib.ListN.{length, length-append}
 use Rattle.slots.specs.Sizes.{cells}
 use Rattle.slots.specs.Owners.{ownerOf}
-use Rattle.seats.specs.declared.seat.Run.{Run}
-use Rattle.seats.specs.declared.table.Table.{Table}
-use Rattle.seats.specs.Tables.{seatAt}
-use Rattle.course.specs.declared.cases.Case.{Case}
-use Rattle.course.specs.declared.cases.Case.the-variants as case
-use Rattle.runs.specs.Runs.{keptWrites}
-use Rattle.course.specs.Steps.{imageAfter}
-use Rattle.runs.proofs.Kept.{written-length}
-use Rattle.table.specs.Calls.{caseOf, imageBy, openCall, stepRefusal, stepImage}
+use Rattle.table.specs.Calls.{openCall}
+use Rattle.upkeep.proofs.Calls.{step-length}
 use Rattle.sheet.specs.Lines.{Item, opens, steps, bad, isBad}
 use Rattle.sheet.specs.Listings.{World, opened, stepped, worldAfter, replyTo, cellLines, endLine, lastLines, listFrom}
 use Rattle.sheet.proofs.LengthLines.{mostLine, open-line, step-reply, cell-lines, end-line, bad-line}
-
--- ---- the image
-
-image-length : (c : Case) (ρ : Run) (img : List ℕ) → length (imageAfter c ρ img) ≡ length img
-unfolding imageAfter
-image-length (case.Got s) ρ img = refl
-image-length case.Blocked ρ img = refl
-image-length (case.Queued s) ρ img = refl
-image-length case.Committed ρ img = written-length (keptWrites ρ) img
-image-length case.Ran ρ img = refl
-image-length (case.Took s) ρ img = refl
-image-length case.Failed ρ img = refl
-image-length (case.Restarted s) ρ img = refl
-
-step-length : (own : ℕ → ℕ) (t : Table) (img : List ℕ) (i : ℕ) → length (stepImage own t img i) ≡ length img
-unfolding stepImage imageBy
-step-length own t img i = go (eqb (stepRefusal own t (length img) i) 0)
-  where
-    go : (b : Bool) → length (cond b (imageAfter (caseOf own t i) (seatAt t i .run) img) img) ≡ length img
-    go true = image-length (caseOf own t i) (seatAt t i .run) img
-    go false = refl
 
 -- ---- the items that are replied to
 
