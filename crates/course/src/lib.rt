@@ -1,4 +1,6 @@
 // One step of an open seat: what it wants, which case that is, and what the case does.
+#![tactic(auto)]
+
 mod after;
 mod cases;
 mod turns;

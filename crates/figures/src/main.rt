@@ -1,5 +1,7 @@
 // The figures at the edges that are run and not proved: each is a line with its name and what came.
 // What should have come stands beside it, and a difference is marked.
+#![tactic(auto)]
+
 ghost use Rattle.std.specs.Prelude.{◌≤◌};
 
 use slots::Cell;

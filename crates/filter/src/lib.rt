@@ -1,5 +1,7 @@
 // The sheet program, as a filter: a sheet in, its listing out. Nothing is decided here: what is
 // written is what `sheet::list_sheet` makes of the bytes that were read.
+#![tactic(auto)]
+
 use libc::{STDIN_FILENO, STDOUT_FILENO};
 use sheet::{MOST_INPUT, MOST_LISTING};
 

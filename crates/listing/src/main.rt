@@ -1,5 +1,7 @@
 // The worked listing of the description, call by call: two seats, eleven steps, each reply on a line of
 // its own; then what seat 0 reports and the two cells.
+#![tactic(auto)]
+
 use course::Word;
 use libc::STDOUT_FILENO;
 use seats::Table;

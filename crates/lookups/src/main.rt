@@ -1,4 +1,5 @@
 // The edge cases of lookup, run and compared.
+#![tactic(auto)]
 
 // The bytes of an entry whose body is as long as its two bytes can say.
 const WHOLE_ENTRY: usize = 65540;

@@ -1,4 +1,6 @@
 // Rule 6 of a sound table, of a seat that is not open.
+#![tactic(auto)]
+
 ghost use Rattle.std.specs.Prelude.{◌≡◌, ◌&&◌};
 ghost use Rattle.rule_six.specs.Tests.{closed_test, ended_test, is_no_instr, is_no_write, is_blank_script, is_blank_run, no_registers, no_writes, is_no_tally, blank_test};
 

@@ -1,4 +1,6 @@
 // Reads a sheet from standard input and writes its listing.
+#![tactic(auto)]
+
 fn main() {
     filter::run();
 }

@@ -1,4 +1,6 @@
 // The run of a seat: what it reads, the writes that it keeps, and what an instruction makes of it.
+#![tactic(auto)]
+
 ghost use Rattle.std.specs.Prelude.{◌≡◌, ◌≤◌};
 ghost use Rattle.script.specs.Scripts.{max_instructions};
 ghost use Rattle.script.specs.Meaning.{act_of};

@@ -1,4 +1,6 @@
 // Scripts: their instructions and what each does, their frames, the reader and the writer.
+#![tactic(auto)]
+
 mod act;
 mod code;
 mod legal;

@@ -1,4 +1,6 @@
 // Seats and the slot table: who holds which slots, who waits for which, and how slots change hands.
+#![tactic(auto)]
+
 mod queue;
 mod seat;
 mod slot_table;

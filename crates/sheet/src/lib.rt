@@ -1,4 +1,6 @@
 // A sheet of lines, and its listing.
+#![tactic(auto)]
+
 mod cells;
 mod lines;
 mod listing;

@@ -1,5 +1,7 @@
 // Script shelves: the frame that a script number has on the site's shelf, or on the works shelf
 // where the site has none.
+#![tactic(auto)]
+
 ghost use Rattle.std.specs.Prelude.{◌≡◌, ◌<◌, length};
 ghost use Rattle.shelf.specs.Shelves.{entry_number, entry_bytes, shelf, is_sound, find, frame_found, lookup_refusal};
 

@@ -2,6 +2,8 @@
 //
 // Document 001 keeps a location and the index of its lock apart. So do `Cell` and `Slot`: a slot
 // given where a cell belongs does not build (tests/slot_for_cell).
+#![tactic(auto)]
+
 mod owner_list;
 mod owning;
 mod set;

@@ -1,4 +1,6 @@
 // The public calls on a table: opening, step, result, slot view, and the reading of a cell.
+#![tactic(auto)]
+
 mod asking;
 mod opening;
 mod stepping;

@@ -1,4 +1,6 @@
 // Lines for the programs that compare what comes with what should come.
+#![tactic(auto)]
+
 use libc::STDOUT_FILENO;
 
 // One line: what it is, what came, and what should have come where that is something else.

@@ -1,4 +1,6 @@
 // Decimal numbers, hex and words as bytes: read from a slice, written to a buffer.
+#![tactic(auto)]
+
 mod buffer;
 mod decimal;
 mod hex;
