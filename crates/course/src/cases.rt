@@ -5,7 +5,7 @@ ghost use Rattle.course.specs.Cases.{waiting, case_for, word_of};
 use crate::Want;
 use slots::{Slot, SlotSet};
 
-#[derive(Drop)]
+#[derive(Clone, Copy)]
 pub enum Case {
     Got(Slot),
     Blocked,
@@ -18,7 +18,7 @@ pub enum Case {
 }
 
 // The reply to a step; `None` to a refused one.
-#[derive(Drop)]
+#[derive(Clone, Copy)]
 pub enum Word {
     None,
     Got,

@@ -10,7 +10,7 @@ use seats::{Seat, SlotTable};
 use slots::OwnerList;
 
 // The reply, and the seat and the slot table after it.
-#[derive(Drop)]
+#[derive(Clone, Copy)]
 pub struct Turn {
     pub word: Word,
     pub seat: Seat,

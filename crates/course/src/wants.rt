@@ -10,7 +10,7 @@ use slots::{CELLS, Cell, OwnerList, SLOTS, Slot, listed};
 
 // A pending slot back; the end; nothing, for an instruction that accesses no cell; the slot of the
 // cell that it accesses; a cell that is not there.
-#[derive(Drop)]
+#[derive(Clone, Copy)]
 pub enum Want {
     Back(Slot),
     End,

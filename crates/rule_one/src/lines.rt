@@ -10,7 +10,7 @@ use slots::{SLOTS, Slot, SlotSet};
 
 // The seats that have not been met in a queue yet, and whether all went well so far: each seat met
 // was among them.
-#[derive(Drop)]
+#[derive(Clone, Copy)]
 pub struct Unmet {
     pub fine: bool,
     pub seats: SlotSet,

@@ -8,7 +8,7 @@ use slots::Cell;
 
 // The cell that an instruction reads into a register, or writes a value to. `access_of` says of
 // which act each is the access.
-#[derive(Drop)]
+#[derive(Clone, Copy)]
 pub enum Access {
     Nothing,
     Reads(u8, Cell),
@@ -16,7 +16,7 @@ pub enum Access {
 }
 
 // The registers after an instruction that accesses no cell, and how many instructions it skips.
-#[derive(Drop)]
+#[derive(Clone, Copy)]
 pub struct Local {
     pub regs: [u32; REGISTERS],
     pub skip: usize,

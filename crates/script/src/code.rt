@@ -4,7 +4,7 @@ ghost use Rattle.script.specs.Scripts.{word, blank_script};
 
 use crate::MAX_INSTRUCTIONS;
 
-#[derive(Drop)]
+#[derive(Clone, Copy)]
 pub struct Instr {
     pub op: u8,
     pub a: u8,
@@ -13,7 +13,7 @@ pub struct Instr {
 }
 
 // The first `len` of `code` are the script's instructions; what stands behind them means nothing.
-#[derive(Drop)]
+#[derive(Clone, Copy)]
 pub struct Script {
     pub code: [Instr; MAX_INSTRUCTIONS],
     pub len: usize,

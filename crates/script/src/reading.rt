@@ -6,7 +6,7 @@ ghost use Rattle.script.specs.Frames.{is_frame, instr_at, decode, body, read_as,
 use crate::{HEAD_BYTES, INSTR_BYTES, Instr, MAX_INSTRUCTIONS, Script, VERSION, word};
 
 // The script, or a refusal's number and the blank script.
-#[derive(Drop)]
+#[derive(Clone, Copy)]
 pub struct ReadScript {
     pub number: u32,
     pub script: Script,

@@ -6,7 +6,7 @@ ghost use Rattle.script.specs.Frames.{bytes_of, frame_of, frame_bytes, written, 
 use crate::{HEAD_BYTES, INSTR_BYTES, Instr, Script, VERSION};
 
 // How many bytes were written, or a refusal's number and none.
-#[derive(Drop)]
+#[derive(Clone, Copy)]
 pub struct Written {
     pub number: u32,
     pub len: usize,

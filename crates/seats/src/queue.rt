@@ -5,7 +5,7 @@ ghost use Rattle.seats.specs.Queues.{no_one, entries, waits_in, joined, served, 
 use crate::SEATS;
 
 // The first `len` of `seats` wait; what stands behind them means nothing.
-#[derive(Drop)]
+#[derive(Clone, Copy)]
 pub struct Queue {
     pub seats: [u8; SEATS],
     pub len: usize,

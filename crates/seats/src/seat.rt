@@ -6,7 +6,7 @@ use script::{MAX_INSTRUCTIONS, REGISTERS, Script};
 use slots::{Cell, SlotSet};
 
 // A write that the seat keeps until it commits.
-#[derive(Drop)]
+#[derive(Clone, Copy)]
 pub struct Write {
     pub cell: Cell,
     pub value: u32,
@@ -14,7 +14,7 @@ pub struct Write {
 
 // The reading given at the opening, the position, the registers, and the kept writes: the first
 // `kept` of `writes`, in their order; what stands behind them means nothing.
-#[derive(Drop)]
+#[derive(Clone, Copy)]
 pub struct Run {
     pub reading: u32,
     pub at: usize,
@@ -24,14 +24,14 @@ pub struct Run {
 }
 
 // Restarts, working count, and the slots held just before the end.
-#[derive(Drop)]
+#[derive(Clone, Copy)]
 pub struct Tally {
     pub restarts: u32,
     pub working: u32,
     pub slots: u32,
 }
 
-#[derive(Drop)]
+#[derive(Clone, Copy)]
 pub enum Phase {
     Blank,
     Open,
@@ -40,7 +40,7 @@ pub enum Phase {
 }
 
 // What a seat holds stands in the slot table, and what it wants back here.
-#[derive(Drop)]
+#[derive(Clone, Copy)]
 pub struct Seat {
     pub phase: Phase,
     pub script: Script,

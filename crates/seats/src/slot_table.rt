@@ -7,7 +7,7 @@ ghost use Rattle.seats.specs.Queues.{waits_in};
 use crate::{Queue, SEATS};
 use slots::{SLOTS, Slot, SlotSet};
 
-#[derive(Drop)]
+#[derive(Clone, Copy)]
 pub struct SlotTable {
     pub held: [SlotSet; SEATS],
     pub queues: [Queue; SLOTS as usize],

@@ -4,7 +4,7 @@ ghost use Rattle.seats.specs.Tables.{fresh};
 
 use crate::{SEATS, Seat, SlotTable};
 
-#[derive(Drop)]
+#[derive(Clone, Copy)]
 pub struct Table {
     pub seats: [Seat; SEATS],
     pub slots: SlotTable,

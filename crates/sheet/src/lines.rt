@@ -8,7 +8,7 @@ use text::{Number, read_number, until};
 
 // An opening with its seat, its reading and the place of its frame; a step with its seat; a line of
 // another shape. The hex of the frame is not read yet.
-#[derive(Drop)]
+#[derive(Clone, Copy)]
 pub enum Line {
     Open(u32, u32, usize),
     Step(u32),

@@ -24,7 +24,7 @@ pub const MOST_LISTING: usize = 420000;
 const MOST_FRAME: usize = 32768;
 
 // How many bytes were written, or a refusal's number and none.
-#[derive(Drop)]
+#[derive(Clone, Copy)]
 pub struct Listed {
     pub number: u32,
     pub len: usize,
@@ -32,7 +32,7 @@ pub struct Listed {
 
 // What a line did: the table after it, whether it ended a transaction, the place behind its reply,
 // and whether it was bad.
-#[derive(Drop)]
+#[derive(Clone, Copy)]
 struct Told {
     table: Table,
     ended: u32,

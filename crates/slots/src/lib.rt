@@ -17,8 +17,8 @@ pub const CELLS: u32 = 1024;
 
 pub const SLOTS: u32 = 64;
 
-#[derive(Drop)]
+#[derive(Clone, Copy)]
 pub struct Cell(pub u32);
 
-#[derive(Drop)]
+#[derive(Clone, Copy)]
 pub struct Slot(pub u32);

@@ -8,7 +8,7 @@ use crate::owner_list::OwnerList;
 use crate::{CELLS, Cell, Slot, owner_list};
 
 // The slot that owns a cell, or refusal 10: `said` gives the number and the value of each.
-#[derive(Drop)]
+#[derive(Clone, Copy)]
 pub enum Owned {
     By(Slot),
     TooHigh,

@@ -7,7 +7,7 @@ ghost use Rattle.slots.specs.Sets.{none, has, adding, removing, above, union, di
 use crate::{SLOTS, Slot};
 
 // One binary digit for each slot.
-#[derive(Drop)]
+#[derive(Clone, Copy)]
 pub struct SlotSet(pub u64);
 
 impl SlotSet {

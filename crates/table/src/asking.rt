@@ -11,7 +11,7 @@ use slots::{CELLS, Cell, SLOTS, Slot};
 
 // Outcome, registers and counts of an ended seat, or a refusal's number and zeros; the zero of an
 // outcome is `Blank`.
-#[derive(Drop)]
+#[derive(Clone, Copy)]
 pub struct Report {
     pub number: u32,
     pub outcome: Phase,
@@ -21,7 +21,7 @@ pub struct Report {
 
 // Whether the slot is owned and by which seat, and the seats that wait for it in their order; zeros
 // behind them.
-#[derive(Drop)]
+#[derive(Clone, Copy)]
 pub struct SlotView {
     pub number: u32,
     pub owned: bool,
@@ -30,7 +30,7 @@ pub struct SlotView {
     pub len: usize,
 }
 
-#[derive(Drop)]
+#[derive(Clone, Copy)]
 pub struct CellRead {
     pub number: u32,
     pub value: u32,

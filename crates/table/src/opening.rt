@@ -9,7 +9,7 @@ use seats::{Phase, Run, SEATS, Seat, Table, Tally};
 use slots::SlotSet;
 
 // The table with the seat opened, or a refusal's number and the table as it came.
-#[derive(Drop)]
+#[derive(Clone, Copy)]
 pub struct Opened {
     pub number: u32,
     pub table: Table,

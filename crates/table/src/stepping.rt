@@ -9,7 +9,7 @@ use seats::{SEATS, Table};
 use slots::{CELLS, all_owners};
 
 // The reply and the table after a step, or a refusal's number, no word and the table as it came.
-#[derive(Drop)]
+#[derive(Clone, Copy)]
 pub struct Stepped {
     pub number: u32,
     pub word: Word,

@@ -2,12 +2,8 @@
 use borrow.Author.Rules.{rules}
 use Rattle.slots.specs.Owners.{owner_of}
 use Rattle.slots.proofs.Owners.{lists}
-use Rattle.slots.proofs.owning.all_owners.Statement.{statement}
-use Rattle.slots.proofs.owning.all_owners.Tie as tie
+use Rattle.slots.proofs.owning.all_owners.Goals as goal
 
-returns : tie.Need-returns
+pub returns : goal.returns
 unfolding owner_of
 returns c = search (rules, lists)
-
-pub all-owners-spec : {M : Type 1} → statement M
-all-owners-spec = tie.close (tie.spec returns)

@@ -2,11 +2,7 @@
 use mathlib.Core.Path.{ap}
 use Rattle.slots.specs.Sets.{slot}
 use Rattle.slots.proofs.Machine.{zeros_smallest}
-use Rattle.slots.proofs.set.SlotSet.smallest.Statement.{statement}
-use Rattle.slots.proofs.set.SlotSet.smallest.Tie as tie
+use Rattle.slots.proofs.set.SlotSet.smallest.Goals as goal
 
-returns : tie.Need-returns
+pub returns : goal.returns
 returns c = ap slot (zeros_smallest _)
-
-pub smallest-spec : {M : Type 1} → statement M
-smallest-spec = tie.close (tie.spec returns)

@@ -2,11 +2,7 @@
 -- set has it and the other does not.
 use borrow.Author.Rules.{rules}
 use Rattle.slots.proofs.Machine.{and_difference}
-use Rattle.slots.proofs.set.SlotSet.difference.Statement.{statement}
-use Rattle.slots.proofs.set.SlotSet.difference.Tie as tie
+use Rattle.slots.proofs.set.SlotSet.difference.Goals as goal
 
-returns : tie.Need-returns
+pub returns : goal.returns
 returns c = and_difference _ _ (search rules) (search rules)
-
-pub difference-spec : {M : Type 1} → statement M
-difference-spec = tie.close (tie.spec returns)

@@ -1,11 +1,7 @@
 -- `SlotSet::union` gives what is in either set. The machine's `|` has a digit where one of the two has it.
 use borrow.Author.Rules.{rules}
 use Rattle.slots.proofs.Machine.{or_union}
-use Rattle.slots.proofs.set.SlotSet.union.Statement.{statement}
-use Rattle.slots.proofs.set.SlotSet.union.Tie as tie
+use Rattle.slots.proofs.set.SlotSet.union.Goals as goal
 
-returns : tie.Need-returns
+pub returns : goal.returns
 returns c = or_union _ _ (search rules) (search rules)
-
-pub union-spec : {M : Type 1} → statement M
-union-spec = tie.close (tie.spec returns)
