@@ -2,15 +2,33 @@
 // written is what `sheet::list_sheet` makes of the bytes that were read.
 #![tactic(auto)]
 
-use libc::{STDIN_FILENO, STDOUT_FILENO};
+ghost use Rattle.std.specs.Io.{ReadsAtMost};
+
 use sheet::{MOST_INPUT, MOST_LISTING};
+use std::io;
+use std::io::Read;
 
 // One byte more than a sheet may have is read, so that a longer one shows.
-pub fn run() {
+pub fn run(rt: &(impl Input + Print)) -> io::Result<()> {
     let mut input = [0; MOST_INPUT + 1];
-    let n = io::read_full(STDIN_FILENO, &mut input);
+    let n = read_full(&mut rt.reader(), &mut input)?;
     let mut listing = [0; MOST_LISTING];
     let listed = sheet::list_sheet(&input[..n], &mut listing);
     let len = listed.len;
-    io::write_all(STDOUT_FILENO, &listing[..len]);
+    rt.write_all(&listing[..len])
+}
+
+// Reads until `buf` is full or the input ends, and returns how many bytes it put at its front.
+fn read_full<R: Read>(from: &mut R, buf: &mut [u8]) -> io::Result<usize>
+    ensures { ReadsAtMost result buf.new }
+{
+    let mut done = 0;
+    while done < buf.len() {
+        let n = from.read(&mut buf[done..])?;
+        if n == 0 {
+            break;
+        }
+        done += n;
+    }
+    Ok(done)
 }

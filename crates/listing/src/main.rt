@@ -3,83 +3,80 @@
 #![tactic(auto)]
 
 use course::Word;
-use libc::STDOUT_FILENO;
 use seats::Table;
 use slots::{CELLS, Cell};
+use std::io;
 
 // The seats in the order of their steps.
 const ORDER: [u32; 11] = [0, 1, 0, 0, 1, 1, 0, 0, 0, 0, 0];
 
-fn say(text: &[u8]) {
-    io::write_all(STDOUT_FILENO, text);
+fn say_number(rt: &impl Print, name: &[u8], n: u32) -> io::Result<()> {
+    rt.write_all(name)?;
+    print!(rt; "{n}")?;
+    rt.write_all(b"\n")
 }
 
-fn say_number(name: &[u8], n: u32) {
-    say(name);
-    io::print_decimal(STDOUT_FILENO, n as u64);
-    say(b"\n");
-}
-
-fn say_word(w: Word) {
+fn say_word(rt: &impl Print, w: Word) -> io::Result<()> {
     match w {
-        Word::None => say(b" no\n"),
-        Word::Got => say(b" got\n"),
-        Word::Blocked => say(b" blocked\n"),
-        Word::Queued => say(b" queued\n"),
-        Word::Committed => say(b" committed\n"),
-        Word::Ran => say(b" ran\n"),
-        Word::Failed => say(b" failed\n"),
-        Word::Restarted => say(b" restarted\n"),
+        Word::None => rt.write_all(b" no\n"),
+        Word::Got => rt.write_all(b" got\n"),
+        Word::Blocked => rt.write_all(b" blocked\n"),
+        Word::Queued => rt.write_all(b" queued\n"),
+        Word::Committed => rt.write_all(b" committed\n"),
+        Word::Ran => rt.write_all(b" ran\n"),
+        Word::Failed => rt.write_all(b" failed\n"),
+        Word::Restarted => rt.write_all(b" restarted\n"),
     }
 }
 
-fn open(t: Table, seat: u32, reading: u32, frame: &[u8]) -> Table {
+fn open(rt: &impl Print, t: Table, seat: u32, reading: u32, frame: &[u8]) -> io::Result<Table> {
     let o = table::open(t, seat, reading, frame);
-    say_number(b"open: ", o.number);
-    o.table
+    say_number(rt, b"open: ", o.number)?;
+    Ok(o.table)
 }
 
-fn step(t: Table, image: &mut [u32; CELLS as usize], seat: u32) -> Table {
+fn step(rt: &impl Print, t: Table, image: &mut [u32; CELLS as usize], seat: u32) -> io::Result<Table> {
     let s = table::step(t, image, seat);
-    say(b"s ");
-    io::print_decimal(STDOUT_FILENO, seat as u64);
+    rt.write_all(b"s ")?;
+    print!(rt; "{seat}")?;
     let w = s.word;
-    say_word(w);
-    s.table
+    say_word(rt, w)?;
+    Ok(s.table)
 }
 
-fn report(t: Table, seat: u32) {
+fn report(rt: &impl Print, t: Table, seat: u32) -> io::Result<()> {
     let r = table::result(t, seat);
-    say_number(b"restarts: ", r.tally.restarts);
-    say_number(b"working steps: ", r.tally.working);
-    say_number(b"slots: ", r.tally.slots);
+    say_number(rt, b"restarts: ", r.tally.restarts)?;
+    say_number(rt, b"working steps: ", r.tally.working)?;
+    say_number(rt, b"slots: ", r.tally.slots)
 }
 
-fn say_cell(name: &[u8], image: &[u32; CELLS as usize], c: u32) {
-    say_number(name, table::cell_read(image, Cell(c)).value);
+fn say_cell(rt: &impl Print, name: &[u8], image: &[u32; CELLS as usize], c: u32) -> io::Result<()> {
+    say_number(rt, name, table::cell_read(image, Cell(c)).value)
 }
 
-fn play(t: Table, image: &mut [u32; CELLS as usize]) -> Table {
+fn play(rt: &impl Print, t: Table, image: &mut [u32; CELLS as usize]) -> io::Result<Table> {
     let mut now = t;
     let mut i = 0;
     while i < 11 {
-        now = step(now, image, ORDER[i]);
+        now = step(rt, now, image, ORDER[i])?;
         i += 1;
     }
-    now
+    Ok(now)
 }
 
-fn main() {
+fn main(rt: HostRuntime) -> io::Result<()> {
     let mut image = [0u32; CELLS as usize];
     let first = open(
+        &rt,
         Table::fresh(),
         0,
         5,
         b"\x01\x00\x08\x03\x00\x00\x08\x03\x00\x00\x00",
-    );
-    let both = open(first, 1, 7, b"\x01\x00\x08\x03\x00\x00\x00\x03\x00\x00\x08");
-    let end = play(both, &mut image);
-    report(end, 0);
-    say_cell(b"cell 0: ", &image, 0);
-    say_cell(b"cell 8: ", &image, 8);
+    )?;
+    let both = open(&rt, first, 1, 7, b"\x01\x00\x08\x03\x00\x00\x00\x03\x00\x00\x08")?;
+    let end = play(&rt, both, &mut image)?;
+    report(&rt, end, 0)?;
+    say_cell(&rt, b"cell 0: ", &image, 0)?;
+    say_cell(&rt, b"cell 8: ", &image, 8)
 }

@@ -5,7 +5,7 @@ use Prim.Native.Nat.{ℕ, ◌<◌}
 use mathlib.Core.Path.{◌≡◌, ◌∙◌, sym}
 use mathlib.Core.List.{List}
 use native.Mathlib.Omega.{arith}
-use lib.ListN.{length, length-map}
+use lib.ListN.{length}
 use mir.Val.{Val}
 use denote.Laws.{Is}
 use denote.Struct.Declared.{row}
@@ -42,9 +42,9 @@ shaped_seat : (z : Seat) (vs : List Val) → Is (row seat.the_type) z vs → Sha
 shaped_seat z vs h =
     let run = h.1.1.1.1.0.1.1 in
     record {
-      code64 = sym (length-map z.script.code _) ∙ h.1.1.1.0.1.1.0.1.0.1;
-      regs8 = sym (length-map z.run.regs _) ∙ run.1.1.0.1.0.1;
-      writes64 = sym (length-map z.run.writes _) ∙ run.1.1.1.0.1.0.1;
+      code64 = h.1.1.1.0.1.1.0.1.0.1;
+      regs8 = run.1.1.0.1.0.1;
+      writes64 = run.1.1.1.0.1.0.1;
       pending = omega arith;
     }
 
@@ -56,7 +56,7 @@ queue_array t vs h s l =
 
 pub shaped : (t : Table) (vs : List Val) → Is (row table.the_type) t vs → Shaped t
 shaped t vs h =
-    let n : length t.seats ≡ seats = sym (length-map t.seats _) ∙ h.1.1.0.1.0.1 in
+    let n : length t.seats ≡ seats = h.1.1.0.1.0.1 in
     record {
       seats16 = n;
       arrays = whole t.slots _ h.1.1.1.0;

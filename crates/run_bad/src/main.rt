@@ -1,6 +1,8 @@
 // Reads a sheet from standard input and writes its listing.
 #![tactic(auto)]
 
-fn main() {
-    filter::run();
+use std::io;
+
+fn main(rt: HostRuntime) -> io::Result<()> {
+    filter::run(&rt)
 }

@@ -4,7 +4,7 @@ use Prim.Native.Nat.{◌≤◌, ◌<◌}
 use mathlib.Core.Path.{◌≡◌, ◌∙◌, sym}
 use mathlib.Core.List.{List}
 use native.Mathlib.Omega.{arith}
-use lib.ListN.{length, get_or, length-map, get_or-eq_default}
+use lib.ListN.{length, get_or, get_or-eq_default}
 use mir.Val.{Val}
 use denote.Laws.{Is}
 use denote.Struct.Declared.{row}
@@ -17,13 +17,13 @@ use Rattle.seats.specs.contracts.seat.Run as run
 use Rattle.seats.specs.contracts.seat.Seat as seat
 
 pub writes_64 : (ρ : Run) (vs : List Val) → Is (row run.the_type) ρ vs → length ρ.writes ≡ max_instructions
-writes_64 ρ vs h = sym (length-map ρ.writes _) ∙ h.1.1.1.1.1.0.1.0.1
+writes_64 ρ vs h = h.1.1.1.1.1.0.1.0.1
 
 -- past the code there is no instruction
 pub past_code : (z : Seat) (vs : List Val) → Is (row seat.the_type) z vs → max_instructions ≤ z.run.at
     → get_or z.script.code z.run.at no_instr ≡ no_instr
 past_code z vs h l =
-    let n : length z.script.code ≡ max_instructions = sym (length-map z.script.code _) ∙ h.1.1.1.0.1.1.0.1.0.1 in
+    let n : length z.script.code ≡ max_instructions = h.1.1.1.0.1.1.0.1.0.1 in
     get_or-eq_default z.script.code no_instr (omega arith)
 
 pub byte_c : (x : Instr) (vs : List Val) → Is (row instr.the_type) x vs → x.c < 256

@@ -5,7 +5,7 @@ use Prim.Native.Nat.{ℕ, zero, suc, ◌≤◌, ◌<◌}
 use mathlib.Core.Path.{◌≡◌, sym, ◌∙◌}
 use mathlib.Core.List.{List, [], ◌∷◌, map}
 use native.Mathlib.Omega.{arith}
-use lib.ListN.{length, get_or, length-map, length-set, get_or-eq_default}
+use lib.ListN.{length, get_or, length-set, get_or-eq_default}
 use lib.Seq.{set_out}
 use mir.Val.{Val}
 use denote.Shadow.{shadow}
@@ -35,7 +35,7 @@ Lined t = (k : ℕ) → k < slots → Line (queue_of t k)
 
 -- an element of an array is a value of its type
 module _ (T : Declared) (z : T.D) where
-  pub element : (xs : List T.D) (us : List Val) → shadow (each (field T).row.Denot (field T).row.own_val (map T.to xs) us)
+  pub element : (xs : List T.D) (us : List Val) → shadow (each (row T).Denot (row T).own_val xs us)
       → (i : ℕ) → i < length xs → (u : Val) × Is (row T) (get_or xs i z) (u ∷ [])
   element [] us s i h = absurd (omega arith)
   element (x ∷ xs) [] s i h = absurd s
@@ -43,14 +43,14 @@ module _ (T : Declared) (z : T.D) where
   element (x ∷ xs) (u ∷ us) s (suc i) h = element xs us s.1 i (omega arith)
 
 pub queue_16 : (q : Queue) (vs : List Val) → Is (row queue.the_type) q vs → length q.seats ≡ seats
-queue_16 q vs h = sym (length-map q.seats _) ∙ h.1.1.0.1.0.1
+queue_16 q vs h = h.1.1.0.1.0.1
 
 module _ (t : SlotTable) (vs : List Val) (h : Is (row table.the_type) t vs) where
   pub whole : Whole t
   whole =
       record {
-        held16 = sym (length-map t.held _) ∙ h.1.1.0.1.0.1;
-        queues64 = sym (length-map t.queues _) ∙ h.1.1.1.0.1.0.1;
+        held16 = h.1.1.0.1.0.1;
+        queues64 = h.1.1.1.0.1.0.1;
       }
 
   -- of a queue the code's types do not say that its length is at most 16

@@ -3,15 +3,8 @@
 use borrow.Author.Rules.{rules}
 use Rattle.script.specs.Meaning.{opening_registers}
 use Rattle.seats.specs.Seats.{opened_run}
-use Rattle.seats.proofs.seat.Run.opened.Statement.{statement}
-use Rattle.seats.proofs.seat.Run.opened.Tie as tie
+use Rattle.seats.proofs.seat.Run.opened.Goals as goal
 
-array-write-regs : tie.Need-array-write-regs
-array-write-regs c = search rules
-
-returns : tie.Need-returns
+pub returns : goal.returns
 unfolding opened_run opening_registers
 returns c = search rules
-
-pub opened-spec : {M : Type 1} → statement M
-opened-spec = tie.close (tie.spec array-write-regs returns)

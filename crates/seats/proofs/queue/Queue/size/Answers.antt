@@ -4,20 +4,16 @@ use native.Mathlib.Omega.{arith}
 use lib.ListN.{length-take}
 use Rattle.seats.specs.Queues.{entries}
 use Rattle.seats.proofs.Shape.{queue_16}
-use Rattle.seats.proofs.queue.Queue.size.Statement.{statement}
-use Rattle.seats.proofs.queue.Queue.size.Tie as tie
+use Rattle.seats.proofs.queue.Queue.size.Goals as goal
 
-returns : tie.Need-returns
+pub returns-then-n-lt-SEATS : goal.returns-then-n-lt-SEATS
 unfolding entries
-returns c =
-    let e = queue_16 c.before.args.self _ c.before.well-formed.0 in
+returns-then-n-lt-SEATS c =
+    let e = queue_16 c.args.self _ c.well_formed.0 in
     simp length-take (omega arith, omega arith)
 
-returns-2 : tie.Need-returns-2
+pub returns-else-n-lt-SEATS : goal.returns-else-n-lt-SEATS
 unfolding entries
-returns-2 c =
-    let e = queue_16 c.before.args.self _ c.before.well-formed.0 in
+returns-else-n-lt-SEATS c =
+    let e = queue_16 c.args.self _ c.well_formed.0 in
     simp length-take (omega arith, omega arith)
-
-pub size-spec : {M : Type 1} → statement M
-size-spec = tie.close (tie.spec returns returns-2)

@@ -3,12 +3,8 @@
 use borrow.Author.Rules.{rules}
 use Rattle.script.specs.Scripts.{blank_script}
 use Rattle.seats.specs.Seats.{blank_run, blank_seat}
-use Rattle.seats.proofs.seat.Seat.blank.Statement.{statement}
-use Rattle.seats.proofs.seat.Seat.blank.Tie as tie
+use Rattle.seats.proofs.seat.Seat.blank.Goals as goal
 
-returns : tie.Need-returns
+pub returns : goal.returns
 unfolding blank_seat blank_run blank_script
 returns c = search rules
-
-pub blank-spec : {M : Type 1} → statement M
-blank-spec = tie.close (tie.spec returns)

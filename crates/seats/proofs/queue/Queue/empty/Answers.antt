@@ -2,12 +2,8 @@
 -- opened.
 use borrow.Author.Rules.{rules}
 use Rattle.seats.specs.Queues.{no_one}
-use Rattle.seats.proofs.queue.Queue.empty.Statement.{statement}
-use Rattle.seats.proofs.queue.Queue.empty.Tie as tie
+use Rattle.seats.proofs.queue.Queue.empty.Goals as goal
 
-returns : tie.Need-returns
+pub returns : goal.returns
 unfolding no_one
 returns c = search rules
-
-pub empty-spec : {M : Type 1} → statement M
-empty-spec = tie.close (tie.spec returns)
