@@ -1,5 +1,5 @@
 -- Which case a step is, line by line as in 'One step of an open seat'.
-use Rattle.std.specs.Prelude.{Bool, true, false, not, cond, ◌||◌, ℕ}
+use Rattle.std.specs.Prelude.{Bool, true, false, not, cond, ◌||◌}
 use Rattle.slots.specs.declared.Slot.{Slot}
 use Rattle.slots.specs.declared.set.SlotSet.{SlotSet}
 use Rattle.slots.specs.Sets.{has, above, is_empty}

@@ -36,6 +36,7 @@ fn goes_on(z: Seat, run: Run, pending: SlotSet) -> Seat
     }
 }
 
+#[tactic(auto, unfolding(crate::specs::Steps::restarted))]
 fn restarted(z: Seat, held: SlotSet, s: Slot) -> Seat
     requires { (z.tally.working ≤ most_working) × (z.tally.restarts ≤ most_restarts) }
     ensures { result ≡ restarted z held s.0 }
@@ -57,6 +58,7 @@ fn restarted(z: Seat, held: SlotSet, s: Slot) -> Seat
     }
 }
 
+#[tactic(auto, unfolding(crate::specs::Steps::ended, seats::specs::Seats::blank_run))]
 fn ended(z: Seat, held: SlotSet, phase: Phase) -> Seat
     requires { z.tally.working ≤ most_working }
     ensures { result ≡ ended z held phase }
@@ -80,6 +82,7 @@ fn ended(z: Seat, held: SlotSet, phase: Phase) -> Seat
 }
 
 // The run after the seat's own instruction.
+#[tactic(auto, unfolding(crate::specs::Wants::act_at))]
 fn ran(z: Seat, image: &[u32]) -> Run
     requires { Fits z }
     ensures { result ≡ after_act (act_at z) image.now z.run }
@@ -96,6 +99,7 @@ fn ran(z: Seat, image: &[u32]) -> Run
 }
 
 // The seat z, which holds `held`, after the case.
+#[tactic(auto, unfolding(crate::specs::Steps::seat_after))]
 pub fn seat_after(c: Case, z: Seat, held: SlotSet, image: &[u32]) -> Seat
     requires { Fits z }
     ensures { result ≡ seat_after c z held image.now }
@@ -115,6 +119,7 @@ pub fn seat_after(c: Case, z: Seat, held: SlotSet, image: &[u32]) -> Seat
 }
 
 // The slot table after the case of seat i.
+#[tactic(auto, unfolding(crate::specs::Steps::slots_after))]
 pub fn slots_after(c: Case, t: SlotTable, i: u8) -> SlotTable
     ensures { result ≡ slots_after c t i }
 {
@@ -131,6 +136,7 @@ pub fn slots_after(c: Case, t: SlotTable, i: u8) -> SlotTable
 }
 
 // The image after the case of a seat with this run.
+#[tactic(auto, unfolding(crate::specs::Steps::image_after))]
 pub fn image_after(c: Case, run: Run, image: &mut [u32])
     requires { run.kept ≤ max_instructions }
     ensures { image.new ≡ image_after c run image.old }

@@ -31,6 +31,7 @@ pub enum Word {
 }
 
 impl Case {
+    #[tactic(auto, unfolding(crate::specs::Cases::word_of))]
     pub fn word(self) -> Word
         ensures { result ≡ word_of self }
     {
@@ -47,6 +48,7 @@ impl Case {
     }
 }
 
+#[tactic(auto, unfolding(crate::specs::Cases::waiting))]
 fn waiting(waits: bool, s: Slot) -> Case
     ensures { result ≡ waiting waits s }
 {
@@ -57,6 +59,7 @@ fn waiting(waits: bool, s: Slot) -> Case
     }
 }
 
+#[tactic(auto, unfolding(crate::specs::Cases::case_for))]
 fn case_back(s: Slot, held: SlotSet, owned: SlotSet, waits: bool) -> Case
     ensures { result ≡ case_for (Want.Back s) held owned waits }
 {
@@ -69,6 +72,7 @@ fn case_back(s: Slot, held: SlotSet, owned: SlotSet, waits: bool) -> Case
     waiting(waits, s)
 }
 
+#[tactic(auto, unfolding(crate::specs::Cases::case_for))]
 fn case_access(s: Slot, held: SlotSet, owned: SlotSet, waits: bool) -> Case
     ensures { result ≡ case_for (Want.Access s) held owned waits }
 {
@@ -88,6 +92,7 @@ fn case_access(s: Slot, held: SlotSet, owned: SlotSet, waits: bool) -> Case
 
 // Of a seat that holds `held`, where `owned` are the slots that some seat holds, and `waits` says
 // that it is in the queue of the slot it wants.
+#[tactic(auto, unfolding(crate::specs::Cases::case_for))]
 pub fn case_for(w: Want, held: SlotSet, owned: SlotSet, waits: bool) -> Case
     ensures { result ≡ case_for w held owned waits }
 {

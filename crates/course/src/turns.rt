@@ -18,6 +18,7 @@ pub struct Turn {
 }
 
 // The step of seat number `seat`, which is z, by a lent owner list.
+#[tactic(auto, unfolding(crate::specs::Steps::turn_of))]
 pub fn take_turn(z: Seat, slots: SlotTable, image: &mut [u32], seat: u8, owners: &OwnerList) -> Turn
     requires { Fits z }
     ensures reply { result ≡ turn_of (listed owners.now) z slots image.old seat }

@@ -21,6 +21,7 @@ pub enum Want {
 
 impl Want {
     // The slot that is wanted, and 64 where none is.
+    #[tactic(auto, unfolding(crate::specs::Wants::slot_of))]
     pub fn slot(self) -> Slot
         ensures { result.0 ≡ slot_of self }
     {
@@ -34,6 +35,7 @@ impl Want {
     }
 }
 
+#[tactic(auto, unfolding(crate::specs::Wants::want_cell))]
 fn want_cell(c: Cell, owners: &OwnerList) -> Want
     ensures { result ≡ want_cell (listed owners.now) c.0 }
 {
@@ -55,6 +57,7 @@ fn want_instr(x: Instr, regs: [u32; REGISTERS], owners: &OwnerList) -> Want
 }
 
 // By a lent owner list.
+#[tactic(auto, unfolding(crate::specs::Wants::want_of, crate::specs::Wants::act_at))]
 pub fn want_of(z: Seat, owners: &OwnerList) -> Want
     ensures { result ≡ want_of (listed owners.now) z }
 {

@@ -11,6 +11,7 @@ use seats::{Run, Write};
 use slots::Cell;
 
 // A cell after the kept writes, where it was v: the latest wins.
+#[tactic(auto, using(crate::proofs::Kept::value_more), unfolding(crate::specs::Runs::value_after, crate::specs::Runs::kept_writes))]
 fn value_after(run: Run, c: Cell, v: u32) -> u32
     requires { run.kept ≤ max_instructions }
     ensures { result ≡ value_after (kept_writes run) c.0 v }
@@ -28,6 +29,7 @@ fn value_after(run: Run, c: Cell, v: u32) -> u32
 }
 
 // A cell as the seat sees it.
+#[tactic(auto, unfolding(crate::specs::Runs::seen))]
 fn seen(run: Run, image: &[u32], c: Cell) -> u32
     requires { run.kept ≤ max_instructions }
     ensures { result ≡ seen run image.now c.0 }
@@ -41,6 +43,7 @@ fn seen(run: Run, image: &[u32], c: Cell) -> u32
 }
 
 // With one more write kept.
+#[tactic(auto, unfolding(crate::specs::Runs::keeping))]
 fn keeping(run: Run, c: Cell, value: u32) -> Run
     requires { (run.at ≤ max_instructions) × (run.kept ≤ max_instructions) }
     ensures { result ≡ keeping run c.0 value }
@@ -84,6 +87,7 @@ pub fn after_instr(run: Run, x: Instr, image: &[u32]) -> Run
 }
 
 // The kept writes go to the image, one after the other.
+#[tactic(auto, unfolding(crate::specs::Runs::written, crate::specs::Runs::kept_writes))]
 pub fn write_kept(run: Run, image: &mut [u32])
     requires { run.kept ≤ max_instructions }
     ensures { image.new ≡ written (kept_writes run) image.old }
