@@ -1,21 +1,14 @@
--- Tests that a function makes one after the other. A callee's answer is the test it ensures, so its `not` says that the test failed or
--- passed. A loop that tests each number below n knows that all before the current one passed: one more passes, one fails and with it all,
--- or the end is reached.
+-- Tests that a function makes one after the other. A loop that tests each number below n knows that all before the current one passed: one
+-- more passes, one fails and with it all, or the end is reached.
 use Prim.Native.Nat.{ℕ, zero, suc, ◌+◌, ◌≤◌, ◌<◌}
 use mathlib.Core.Path.{◌≡◌, refl, sym, ap, ap₂, ◌∙◌, subst}
-use mathlib.Core.Bool.{Bool, true, false, not, ◌&&◌, and-false}
+use mathlib.Core.Bool.{Bool, true, false, ◌&&◌, and-false}
 use native.Mathlib.Omega.{arith}
 use native.Mathlib.Numerals.{add-one}
 use lib.Dec.{eqb}
-use borrow.Author.Tests.{eqb-true, eqb-false, not-true, not-false}
+use borrow.Author.Tests.{eqb-true, eqb-false}
 use Rattle.slots.proofs.Truth.{and_i, split}
 use Rattle.rule_one.specs.Tests.{all}
-
-pub failed : {b t : Bool} → b ≡ t → not b ≡ true → t ≡ false
-failed {b} e n = sym e ∙ not-true b n
-
-pub passed : {b t : Bool} → b ≡ t → not b ≡ false → t ≡ true
-passed {b} e n = sym e ∙ not-false b n
 
 module _ (f : ℕ → Bool) where
   pub all_none : all f 0 ≡ true

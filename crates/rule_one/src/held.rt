@@ -6,6 +6,7 @@ use seats::{SEATS, SlotTable};
 use slots::SlotSet;
 
 // What is in both.
+#[tactic(auto, unfolding(crate::specs::Tests::common))]
 pub fn common(a: SlotSet, b: SlotSet) -> SlotSet
     ensures { result ≡ common a b }
 {

@@ -23,6 +23,7 @@ fn all_seats() -> SlotSet
     SlotSet(65535)
 }
 
+#[tactic(auto, unfolding(crate::specs::Tests::met))]
 fn meet(u: Unmet, seat: u8) -> Unmet
     ensures { result ≡ met seat u }
 {
@@ -92,6 +93,7 @@ fn lengths_sound(t: SlotTable, owned: SlotSet) -> bool
 }
 
 // Rule 1 whole: whether it holds, and then the seats that wait in no queue.
+#[tactic(auto, unfolding(crate::specs::Tests::left_over))]
 pub fn slots_sound(t: SlotTable) -> Unmet
     ensures { result ≡ left_over t }
 {

@@ -13,6 +13,7 @@ const MOST_RESTARTS: u32 = 63;
 
 const MOST_WORKING: u32 = 12225;
 
+#[tactic(auto, unfolding(crate::specs::Tests::is_no_instr))]
 fn is_no_instr(x: Instr) -> bool
     ensures { result ≡ is_no_instr x }
 {
@@ -28,6 +29,7 @@ fn is_no_instr(x: Instr) -> bool
     x.c == 0
 }
 
+#[tactic(auto, unfolding(crate::specs::Tests::is_blank_script))]
 fn is_blank_script(s: Script) -> bool
     ensures { result ≡ is_blank_script s }
 {
@@ -45,6 +47,7 @@ fn is_blank_script(s: Script) -> bool
     true
 }
 
+#[tactic(auto, unfolding(crate::specs::Tests::is_no_write))]
 fn is_no_write(w: Write) -> bool
     ensures { result ≡ is_no_write w }
 {
@@ -54,6 +57,7 @@ fn is_no_write(w: Write) -> bool
     w.value == 0
 }
 
+#[tactic(auto, unfolding(crate::specs::Tests::no_registers))]
 fn no_registers(run: Run) -> bool
     ensures { result ≡ no_registers run }
 {
@@ -67,6 +71,7 @@ fn no_registers(run: Run) -> bool
     true
 }
 
+#[tactic(auto, unfolding(crate::specs::Tests::no_writes))]
 fn no_writes(run: Run) -> bool
     ensures { result ≡ no_writes run }
 {
@@ -81,6 +86,7 @@ fn no_writes(run: Run) -> bool
     true
 }
 
+#[tactic(auto, unfolding(crate::specs::Tests::is_blank_run))]
 fn is_blank_run(run: Run) -> bool
     ensures { result ≡ is_blank_run run }
 {
@@ -99,6 +105,7 @@ fn is_blank_run(run: Run) -> bool
     no_writes(run)
 }
 
+#[tactic(auto, unfolding(crate::specs::Tests::is_no_tally))]
 fn is_no_tally(t: Tally) -> bool
     ensures { result ≡ is_no_tally t }
 {
@@ -112,6 +119,7 @@ fn is_no_tally(t: Tally) -> bool
 }
 
 // A never opened seat is blank.
+#[tactic(auto, unfolding(crate::specs::Tests::blank_test))]
 fn blank_sound(z: Seat) -> bool
     ensures { result ≡ blank_test z }
 {
@@ -128,6 +136,7 @@ fn blank_sound(z: Seat) -> bool
 }
 
 // It holds, wants and keeps nothing.
+#[tactic(auto, unfolding(crate::specs::Tests::closed_test))]
 fn closed_sound(z: Seat, held: SlotSet, queued: bool) -> bool
     ensures { result ≡ closed_test z held queued }
 {
@@ -145,6 +154,7 @@ fn closed_sound(z: Seat, held: SlotSet, queued: bool) -> bool
 }
 
 // What an ended one reports.
+#[tactic(auto, unfolding(crate::specs::Tests::ended_test))]
 fn ended_sound(t: Tally) -> bool
     ensures { result ≡ ended_test t }
 {

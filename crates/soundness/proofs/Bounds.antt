@@ -1,10 +1,8 @@
--- The numbers of rule 5 are small: a product of two numbers that are at most 64 is at most 4,096, restarts that pass their test are at most
--- 64, and a legal script has at most 64 instructions.
-use Prim.Native.Nat.{ℕ, ◌*◌, ◌≤◌}
+-- The numbers of rule 5 are small: restarts that pass their test are at most 64, and a legal script has at most 64 instructions.
+use Prim.Native.Nat.{ℕ, ◌≤◌}
 use mathlib.Core.Path.{◌≡◌}
 use mathlib.Core.Bool.{true, ◌&&◌}
 use native.Mathlib.Omega.{arith}
-use native.Mathlib.Nat.{mul-le-mul}
 use lib.Dec.{leb, eqb}
 use borrow.Author.Tests.{eqb-true, ltb-true, leb-true}
 use Rattle.slots.specs.Sizes.{slots}
@@ -17,9 +15,6 @@ use Rattle.script.specs.Legal.{script_checks}
 use Rattle.script.proofs.Lawful.{code_ok}
 use Rattle.seats.specs.declared.seat.Seat.{Seat}
 use Rattle.soundness.specs.Tests.{kept_test, place_test, restarts_test}
-
-pub product : {a b : ℕ} → a ≤ 64 → b ≤ 64 → a * b ≤ 4096
-product h k = mul-le-mul h k
 
 pub restarts_few : (r l : ℕ) → l ≤ slots → restarts_test r l ≡ true → r ≤ slots
 unfolding restarts_test

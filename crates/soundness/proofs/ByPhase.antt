@@ -1,10 +1,11 @@
--- The test of a seat by its phase: each phase's test is the line that the definition has for it. A seat that is not queued passes or fails
--- whatever is said of the slot it wants. A seat that was not left over when all who wait were met is queued; so the code's turn at a seat is
--- that seat's test, and past rule 1 a table is sound if every turn passes.
+-- The test of a seat by its phase. A seat that is not queued passes or fails whatever is said of the slot it wants. A seat that was not
+-- left over when all who wait were met is queued; so the code's turn at a seat is that seat's test, and past rule 1 a table is sound if every
+-- turn passes.
 use Prim.Native.Nat.{ℕ, ◌<◌}
 use mathlib.Core.Path.{◌≡◌, refl, sym, ap, ap₂, ◌∙◌}
-use mathlib.Core.Bool.{Bool, true, false, not, ◌&&◌}
+use mathlib.Core.Bool.{Bool, true, false, not}
 use mathlib.Core.List.{List}
+use borrow.Author.Tests.{not-true}
 use Rattle.slots.specs.declared.set.SlotSet.{SlotSet}
 use Rattle.slots.specs.Sets.{has}
 use Rattle.slots.specs.Owners.{listed, Lists, owner_of}
@@ -20,26 +21,8 @@ use Rattle.course.specs.Wants.{want_of, slot_of}
 use Rattle.rule_one.specs.declared.lines.Unmet.{Unmet}
 use Rattle.rule_one.specs.Tests.{all, left_over, is_queued}
 use Rattle.rule_one.proofs.Meets.{left_fine, left_queued}
-use Rattle.rule_six.specs.Tests.{closed_test, blank_test, ended_test}
 use Rattle.soundness.specs.Tests.{wait_test, open_test, phase_test, seat_test, sound_test}
 use Rattle.soundness.proofs.Alike.{seat_alike}
-
-module _ (own : ℕ → ℕ) (z : Seat) (h : SlotSet) (queued here : Bool) (p : Phase) where
-  pub of_blank : p ≡ Blank → (closed_test z h queued && blank_test z) ≡ phase_test own p z h queued here
-  unfolding phase_test
-  of_blank e = rw e
-
-  pub of_open : p ≡ Open → open_test own z h queued here ≡ phase_test own p z h queued here
-  unfolding phase_test
-  of_open e = rw e
-
-  pub of_committed : p ≡ Committed → (closed_test z h queued && ended_test z.tally) ≡ phase_test own p z h queued here
-  unfolding phase_test
-  of_committed e = rw e
-
-  pub of_failed : p ≡ Failed → (closed_test z h queued && ended_test z.tally) ≡ phase_test own p z h queued here
-  unfolding phase_test
-  of_failed e = rw e
 
 pub not_queued : (own : ℕ → ℕ) (p : Phase) (z : Seat) (h : SlotSet) (a b : Bool) → phase_test own p z h false a ≡ phase_test own p z h false b
 unfolding phase_test open_test wait_test
@@ -76,11 +59,11 @@ module _ (own : ℕ → ℕ) (t : Table) where
 -- a turn tests seat i: u is what is left over of rule 1, f says that the seat is in it, and r is what the code found by the owner list l
 pub seat_tested : (l : List ℕ) (t : Table) (i : ℕ) (u : Unmet) (f here r : Bool) → Lists l → i < seats → u ≡ left_over t.slots → u.fine ≡ true
     → f ≡ has u.seats i
-    → (not f ≡ true → here ≡ waits_in (queue_of t.slots (slot_of (want_of (listed l) (seat_at t i)))) i)
+    → (f ≡ false → here ≡ waits_in (queue_of t.slots (slot_of (want_of (listed l) (seat_at t i)))) i)
     → r ≡ phase_test (listed l) (seat_at t i).phase (seat_at t i) (held_by t.slots i) (not f) here
     → r ≡ seat_test owner_of t i
 unfolding Lists
 seat_tested l t i u f here r o h e y q w p =
     let fine = sym (ap (λ (v : Unmet). v.fine) e) ∙ y in
     let queued = ap not (q ∙ ap (λ (v : Unmet). has v.seats i) e) ∙ left_queued t.slots i h fine in
-    p ∙ turn (listed l) t i (not f) here queued w ∙ seat_alike (listed l) owner_of o t i
+    p ∙ turn (listed l) t i (not f) here queued (λ z. w (not-true f z)) ∙ seat_alike (listed l) owner_of o t i

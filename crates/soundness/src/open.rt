@@ -11,6 +11,7 @@ use script::REGISTERS;
 use seats::{Run, Seat, Tally};
 use slots::{CELLS, Cell, OwnerList, Slot, SlotSet, listed};
 
+#[tactic(auto, unfolding(crate::specs::Tests::cell_held))]
 fn cell_held(held: SlotSet, c: Cell, owners: &OwnerList) -> bool
     ensures { result ≡ cell_held (listed owners.now) held c.0 }
 {
@@ -22,6 +23,7 @@ fn cell_held(held: SlotSet, c: Cell, owners: &OwnerList) -> bool
 }
 
 // Rule 2: the kept writes go to cells whose slots are held.
+#[tactic(auto, unfolding(crate::specs::Tests::kept_test))]
 fn kept_sound(run: Run, held: SlotSet, owners: &OwnerList) -> bool
     requires { run.kept ≤ max_instructions }
     ensures { result ≡ kept_test (listed owners.now) run held }
@@ -40,6 +42,7 @@ fn kept_sound(run: Run, held: SlotSet, owners: &OwnerList) -> bool
 }
 
 // Rule 2.
+#[tactic(auto, unfolding(crate::specs::Tests::place_test))]
 fn place_sound(z: Seat, held: SlotSet, owners: &OwnerList) -> bool
     ensures { result ≡ place_test (listed owners.now) z held }
 {
@@ -57,6 +60,7 @@ fn place_sound(z: Seat, held: SlotSet, owners: &OwnerList) -> bool
     kept_sound(run, held, owners)
 }
 
+#[tactic(auto, unfolding(crate::specs::Tests::at_opening))]
 fn at_opening(run: Run) -> bool
     ensures { result ≡ at_opening run }
 {
@@ -79,6 +83,7 @@ fn at_opening(run: Run) -> bool
 }
 
 // Rule 3.
+#[tactic(auto, unfolding(crate::specs::Tests::pending_test))]
 fn pending_sound(run: Run, held: SlotSet, pending: SlotSet) -> bool
     ensures { result ≡ pending_test run held pending }
 {
@@ -96,6 +101,7 @@ fn pending_sound(run: Run, held: SlotSet, pending: SlotSet) -> bool
 }
 
 // Rule 4, of a seat that is queued: for the slot s that it wants, if `here` says so.
+#[tactic(auto, unfolding(crate::specs::Tests::wait_test))]
 fn wait_sound(here: bool, held: SlotSet, s: Slot) -> bool
     ensures { result ≡ wait_test true here held s.0 }
 {
@@ -108,6 +114,7 @@ fn wait_sound(here: bool, held: SlotSet, s: Slot) -> bool
     held.above(s).is_empty()
 }
 
+#[tactic(auto, unfolding(crate::specs::Tests::restarts_test))]
 fn restarts_sound(restarts: u32, l: u32) -> bool
     ensures { result ≡ restarts_test restarts l }
 {
@@ -120,6 +127,7 @@ fn long(x: u32) -> u64
     x as u64
 }
 
+#[tactic(auto, unfolding(crate::specs::Tests::working_test))]
 fn working_sound(r: u32, w: u32, k: usize, at: usize, p: u32, l: u32, q: bool) -> bool
     requires { (r ≤ slots) × (k ≤ max_instructions) × (at ≤ max_instructions) × (p ≤ slots) × (l ≤ slots) }
     ensures { result ≡ working_test r w k at p l (cond q 1 0) }
@@ -131,6 +139,7 @@ fn working_sound(r: u32, w: u32, k: usize, at: usize, p: u32, l: u32, q: bool) -
 }
 
 // Rule 5.
+#[tactic(auto, unfolding(crate::specs::Tests::count_test))]
 fn count_sound(
     t: Tally,
     k: usize,
@@ -152,6 +161,7 @@ fn count_sound(
 }
 
 // What a seat wants is asked of a queued one alone.
+#[tactic(auto, unfolding(crate::specs::Tests::open_test, crate::specs::Tests::wait_test, crate::specs::Tests::queued_set))]
 pub fn open_sound(z: Seat, held: SlotSet, queued: bool, here: bool, owners: &OwnerList) -> bool
     ensures { result ≡ open_test (listed owners.now) z held queued here }
 {

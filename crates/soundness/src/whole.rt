@@ -11,6 +11,7 @@ use seats::{Phase, SEATS, Seat, Table};
 use slots::{OwnerList, Slot, SlotSet, all_owners};
 
 // A seat that holds `held`: whether it waits at all, and whether for the slot it wants.
+#[tactic(auto, unfolding(crate::specs::Tests::phase_test))]
 pub fn seat_sound(z: Seat, held: SlotSet, queued: bool, here: bool, owners: &OwnerList) -> bool
     ensures { result ≡ phase_test (listed owners.now) z.phase z held queued here }
 {
