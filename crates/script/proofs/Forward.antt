@@ -7,7 +7,7 @@ use Rattle.script.specs.declared.code.Instr.{Instr}
 use Rattle.script.specs.Scripts.{no_instr}
 use Rattle.script.specs.Legal.{legal}
 use Rattle.script.specs.Meaning.{Act, is_less, register, act_of}
-use Rattle.script.specs.Alone.{End, Place, committed, failed, end, place, in_range, next, act_at, finish}
+use Rattle.script.specs.Alone.{Place, committed, failed, end, in_range, next, act_at, finish}
 use Rattle.script.proofs.Lawful.{legal_at_lem, skip_fits}
 use Rattle.script.proofs.Acts.{by_op}
 

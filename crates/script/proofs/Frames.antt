@@ -139,9 +139,6 @@ module _ (d : List ℕ) (xs : List Instr) (room : frame_bytes (length xs) ≤ le
   front_length : i ≤ length xs → length (front d xs i) ≡ frame_bytes i
   front_length h = simp (length-append, length_encode, length-take-le head_bytes d (omega arith), length-take-le i xs h)
 
-  pub filled_length : i ≤ length xs → length (filled d xs i) ≡ length d
-  filled_length h = simp (length-append (front d xs i), front_length h, length-drop) (omega arith)
-
   -- an instruction more, put into d₁, makes d₂
   pub filled_more : {d₁ d₂ : List ℕ} {x : Instr} → i < length xs → get_or xs i no_instr ≡ x → d₁ ≡ filled d xs i
       → d₂ ≡ take (frame_bytes i) d₁ ++ (bytes_of x ++ drop (frame_bytes i + instr_bytes) d₁) → d₂ ≡ filled d xs (i + 1)

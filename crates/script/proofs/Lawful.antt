@@ -1,11 +1,11 @@
 -- Legal instructions and scripts. `legal_at` has a line for each op, and where the op is known all the other lines compute to false, so
 -- what is left is what that line asks. A script is asked from its first instruction on: those from position i on are the one at i and those
 -- from i + 1 on, which is a turn of the code's loop. Refusals 8 and 9 are not given just where there are few enough and all are legal.
-use Rattle.std.proofs.Common.{◌≡◌, ℕ, zero, suc, ◌+◌, ◌-◌, ◌<◌, ◌≤◌, Bool, true, false, not, ◌&&◌, eqb, ltb, leb, List, ◌∷◌, ◌++◌, length, get_or, drop, sym, refl, ap, ◌∙◌, add-one, arith, drop_of_length-le, drop-cons, ltb-false, ltb-true, le-ltb, lt-ltb, ne_eqb, eqb-true, le-leb, leb-true}
+use Rattle.std.proofs.Common.{◌≡◌, ℕ, zero, suc, ◌+◌, ◌<◌, ◌≤◌, Bool, true, false, not, ◌&&◌, eqb, ltb, leb, List, ◌∷◌, ◌++◌, length, get_or, drop, sym, refl, ap, ◌∙◌, add-one, arith, drop_of_length-le, drop-cons, ltb-false, le-ltb, ne_eqb, eqb-true, leb-true}
 use mathlib.Core.Bool.{and-false, or-false}
-use borrow.Author.Tests.{eqb-false, lt-leb, not-false}
+use borrow.Author.Tests.{eqb-false, not-false}
 use Rattle.slots.specs.Refusals.{Check, ◌when◌, refusal}
-use Rattle.slots.proofs.Truth.{and_l, and_r, alike, split}
+use Rattle.slots.proofs.Truth.{and_l, and_r, split}
 use Rattle.script.specs.declared.code.Instr.{Instr}
 use Rattle.script.specs.declared.code.Script.{Script}
 use Rattle.script.specs.Scripts.{max_instructions, k16, instr, no_instr, instrs}
@@ -69,14 +69,6 @@ module _ (k i : ℕ) (x : Instr) where
   skip_fits e o =
       let q : (is_register x.a && (is_register x.b && leb (i + 1 + x.c) k)) ≡ legal_at k i x = of_op (eqb-true x.op 8 o) refl in
       leb-true (i + 1 + x.c) k (and_r (is_register x.b) _ (and_r (is_register x.a) _ (q ∙ e)))
-
--- a skip of c instructions at position i of k, as the code asks
-pub skip_below : (k i c : ℕ) → i < k → ltb c (k - i) ≡ leb (i + 1 + c) k
-skip_below k i c h =
-    alike (λ e. le-leb (i + 1 + c) k (omega (arith, ltb-true c (k - i) e))) (λ e. lt-ltb c (k - i) (omega (arith, leb-true (i + 1 + c) k e)))
-
-pub skip_past : (k i c : ℕ) → k ≤ i → false ≡ leb (i + 1 + c) k
-skip_past k i c h = sym (lt-leb (i + 1 + c) k (omega arith))
 
 -- ---- a script
 

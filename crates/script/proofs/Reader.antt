@@ -72,6 +72,15 @@ module _ (f : List ℕ) where
   unfolding read_script
   read_refused {n} e h = rw (e, ne_eqb n 0 h)
 
+  module _ (e : is_frame f ≡ true) where
+    pub read_long : max_instructions < (length f - head_bytes) / instr_bytes → read_script f ≡ read_as 8 blank_script
+    read_long h = sym (read_refused (read_8 e h) (λ q. omega arith))
+
+    -- where the script that was made has a number
+    pub read_numbered : (refusal (script_checks (script_of (decode (body f)))) ≡ 0 → ⊥)
+        → read_script f ≡ read_as (refusal (script_checks (script_of (decode (body f))))) blank_script
+    read_numbered h = sym (read_refused (read_rest e) h)
+
   pub read_script_lem : read_refusal f ≡ 0 → read_as 0 (script_of (decode (body f))) ≡ read_script f
   unfolding read_script
   read_script_lem e = rw e

@@ -64,6 +64,7 @@ fn refused(number: u32) -> ReadScript
     }
 }
 
+#[tactic(auto, using(crate::proofs::Reader::read_long, crate::proofs::Reader::read_numbered))]
 pub fn read_script(frame: &[u8]) -> ReadScript
     ensures { result ≡ read_script frame.now }
 {
