@@ -4,12 +4,12 @@
 use Prim.Native.Nat.{ℕ, ◌≤◌, ◌<◌}
 use native.Mathlib.Omega.{arith}
 use mathlib.Core.Path.{◌≡◌, refl, sym, ◌∙◌}
-use mathlib.Core.Bool.{Bool, true, false, not}
+use mathlib.Core.Bool.{Bool, true, false}
 use mathlib.Core.List.{List, [], ◌∷◌}
 use lib.ListN.{length}
 use lib.Seq.{take_all}
 use lib.Dec.{eqb}
-use borrow.Author.Tests.{eqb-true, eqb-false, not-true, not-false}
+use borrow.Author.Tests.{eqb-true, eqb-false}
 use Rattle.slots.proofs.Truth.{split}
 use Rattle.shelf.specs.Shelves.{shelf, is_sound, find, or_else, on_either, lookup_refusal, frame_found}
 use Rattle.shelf.proofs.Refused.{refused_site, refused_works, refused_13, refused_not, frame_either, refused_empty}
@@ -34,19 +34,19 @@ module _ (site works : List ℕ) (n : ℕ) where
   gives_12 e = record { number = sym e; part = sym (refused_empty site works n (λ z. omega arith)) }
 
   module _ {a : Bool} (site-asked : a ≡ is_sound (shelf site)) where
-    pub site_damaged : not a ≡ true → Gives site works n 12 []
-    site_damaged t = gives_12 (refused_site site works n (sym site-asked ∙ not-true a t))
+    pub site_damaged : a ≡ false → Gives site works n 12 []
+    site_damaged t = gives_12 (refused_site site works n (sym site-asked ∙ t))
 
-    module _ (site-sound : not a ≡ false) {b : Bool} (works-asked : b ≡ is_sound (shelf works)) where
+    module _ (site-sound : a ≡ true) {b : Bool} (works-asked : b ≡ is_sound (shelf works)) where
       site_true : is_sound (shelf site) ≡ true
-      site_true = sym site-asked ∙ not-false a site-sound
+      site_true = sym site-asked ∙ site-sound
 
-      pub works_damaged : not b ≡ true → Gives site works n 12 []
-      works_damaged t = gives_12 (refused_works site works n site_true (sym works-asked ∙ not-true b t))
+      pub works_damaged : b ≡ false → Gives site works n 12 []
+      works_damaged t = gives_12 (refused_works site works n site_true (sym works-asked ∙ t))
 
-      module _ (works-sound : not b ≡ false) {f : List ℕ} (site-searched : f ≡ find n (shelf site)) where
+      module _ (works-sound : b ≡ true) {f : List ℕ} (site-searched : f ≡ find n (shelf site)) where
         works_true : is_sound (shelf works) ≡ true
-        works_true = sym works-asked ∙ not-false b works-sound
+        works_true = sym works-asked ∙ works-sound
 
         pub on_site : 0 < length f → Gives site works n 0 f
         unfolding on_either

@@ -92,7 +92,6 @@ pub record Turn (s : List ℕ) (n : ℕ) : Type 0 where
   pub least : number_bytes + head_bytes ≤ n
   pub fits : n ≤ length s
   pub first : shelf s ≡ entry (entry_number s) (take (n - number_bytes) (drop number_bytes s)) (shelf (behind n s))
-  pub falls : length (behind n s) < length s
 
 whole_turn : (s : List ℕ) (n : ℕ) → is_whole s ≡ true → n ≡ span s → Turn s n
 whole_turn s n w e =
@@ -102,7 +101,6 @@ whole_turn s n w e =
       least = l;
       fits = f;
       first = rw (behind_is n s, e) (shelf_entry s w);
-      falls = rw (behind_is n s) (simp length-drop (omega arith));
     }
 
 module _ (s : List ℕ) (n : ℕ) (called : n ≡ entry_bytes s) where

@@ -25,6 +25,7 @@ fn entry_bytes(s: &[u8]) -> usize
 }
 
 // The script number of the entry at the front of s.
+#[tactic(auto, unfolding(crate::specs::Shelves::entry_number))]
 fn entry_number(s: &[u8]) -> u32
     requires { 1 < length s.now }
     ensures { result ≡ entry_number s.now }

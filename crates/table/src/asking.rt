@@ -36,6 +36,7 @@ pub struct CellRead {
     pub value: u32,
 }
 
+#[tactic(auto, unfolding(crate::specs::Calls::is_ended))]
 fn is_ended(p: Phase) -> bool
     ensures { result ≡ is_ended p }
 {
@@ -58,6 +59,7 @@ fn no_report(number: u32) -> Report
     }
 }
 
+#[tactic(auto, unfolding(crate::specs::Calls::result_call, crate::specs::Calls::result_refusal, slots::specs::Refusals::refusal))]
 pub fn result(table: Table, seat: u32) -> Report
     ensures { result ≡ result_call owner_of table seat }
 {
@@ -128,6 +130,7 @@ fn no_view(number: u32) -> SlotView
     }
 }
 
+#[tactic(auto, unfolding(crate::specs::Calls::slot_view_call, crate::specs::Calls::view_refusal, slots::specs::Refusals::refusal))]
 pub fn slot_view(table: Table, s: Slot) -> SlotView
     ensures { result ≡ slot_view_call owner_of table s.0 }
 {
@@ -161,6 +164,7 @@ pub fn slot_view(table: Table, s: Slot) -> SlotView
     }
 }
 
+#[tactic(auto, unfolding(crate::specs::Calls::cell_read_call, crate::specs::Calls::cell_refusal, slots::specs::Refusals::refusal))]
 pub fn cell_read(image: &[u32], c: Cell) -> CellRead
     ensures { result ≡ cell_read_call image.now c.0 }
 {

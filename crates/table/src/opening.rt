@@ -16,6 +16,7 @@ pub struct Opened {
 }
 
 // The seat with a script and its reading, at the beginning.
+#[tactic(auto, unfolding(crate::specs::Calls::opened_seat))]
 fn opened_seat(script: Script, reading: u32) -> Seat
     ensures { result ≡ opened_seat script reading }
 {
