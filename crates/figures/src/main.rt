@@ -32,7 +32,12 @@ fn owners(rt: &impl Print) -> io::Result<()> {
 }
 
 fn read(rt: &impl Print, name: &[u8], frame: &[u8], expected: usize) -> io::Result<()> {
-    tell::figure(rt, name, script::read_script(frame).number as usize, expected)
+    tell::figure(
+        rt,
+        name,
+        script::read_script(frame).number as usize,
+        expected,
+    )
 }
 
 fn frames(rt: &impl Print) -> io::Result<()> {
@@ -98,7 +103,13 @@ fn long_frames(rt: &impl Print) -> io::Result<()> {
 }
 
 // The script of two instructions is written to dst, which then holds what is expected.
-fn write(rt: &impl Print, name: &[u8], dst: &mut [u8], number: usize, expected: &[u8]) -> io::Result<()> {
+fn write(
+    rt: &impl Print,
+    name: &[u8],
+    dst: &mut [u8],
+    number: usize,
+    expected: &[u8],
+) -> io::Result<()> {
     let read = script::read_script(b"\x01\x00\x08\x03\x00\x00\x08\x03\x00\x00\x00");
     let w = script::write_script(read.script, dst);
     tell::figure(rt, name, w.number as usize, number)?;

@@ -35,7 +35,12 @@ fn open(rt: &impl Print, t: Table, seat: u32, reading: u32, frame: &[u8]) -> io:
     Ok(o.table)
 }
 
-fn step(rt: &impl Print, t: Table, image: &mut [u32; CELLS as usize], seat: u32) -> io::Result<Table> {
+fn step(
+    rt: &impl Print,
+    t: Table,
+    image: &mut [u32; CELLS as usize],
+    seat: u32,
+) -> io::Result<Table> {
     let s = table::step(t, image, seat);
     rt.write_all(b"s ")?;
     print!(rt; "{seat}")?;
@@ -74,7 +79,13 @@ fn main(rt: HostRuntime) -> io::Result<()> {
         5,
         b"\x01\x00\x08\x03\x00\x00\x08\x03\x00\x00\x00",
     )?;
-    let both = open(&rt, first, 1, 7, b"\x01\x00\x08\x03\x00\x00\x00\x03\x00\x00\x08")?;
+    let both = open(
+        &rt,
+        first,
+        1,
+        7,
+        b"\x01\x00\x08\x03\x00\x00\x00\x03\x00\x00\x08",
+    )?;
     let end = play(&rt, both, &mut image)?;
     report(&rt, end, 0)?;
     say_cell(&rt, b"cell 0: ", &image, 0)?;

@@ -6,7 +6,14 @@ use std::io;
 // The bytes of an entry whose body is as long as its two bytes can say.
 const WHOLE_ENTRY: usize = 65540;
 
-fn found(rt: &impl Print, name: &[u8], site: &[u8], works: &[u8], number: u32, expected: usize) -> io::Result<()> {
+fn found(
+    rt: &impl Print,
+    name: &[u8],
+    site: &[u8],
+    works: &[u8],
+    number: u32,
+    expected: usize,
+) -> io::Result<()> {
     tell::figure(
         rt,
         name,
