@@ -93,7 +93,7 @@ cell-line c v = go (eqb v 0)
 pub cell-lines : (c : ℕ) (vs : List ℕ) → length (cell_lines c vs) ≤ most_line * length vs
 unfolding cell_lines
 cell-lines c [] = omega arith
-cell-lines c (v ∷ vs) = omega (arith, length-append (cell_line c v) (cell_lines (suc c) vs), cell-line c v, cell-lines (suc c) vs)
+cell-lines c (v ∷ vs) = omega (arith, length-append {A = ℕ}, cell-line c v, cell-lines (suc c) vs)
 
 pub end_line_lem : (n : ℕ) → length (end_line n) ≤ 13
 unfolding end_line

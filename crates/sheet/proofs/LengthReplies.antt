@@ -51,7 +51,8 @@ one_more (opens i x f) ls a b h g = omega (arith, length-append a b)
 one_more (steps i) ls a b h g = omega (arith, length-append a b)
 one_more bad ls a b h g = omega (arith, length-append a [])
 
-pub list_from_lem : (ls : List Item) (n : ℕ) (w : World) → length w.image ≡ cells → length (list_from n w ls) ≤ most_line * replies ls + most_last
+pub list_from_lem : (ls : List Item) (n : ℕ) (w : World) → length w.image ≡ cells
+    → length (list_from n w ls) ≤ most_line * replies ls + most_last
 unfolding list_from replies
 list_from_lem [] n w e = last_lines_lem w e
 list_from_lem (x ∷ ls) n w e =

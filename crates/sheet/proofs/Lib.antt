@@ -1,7 +1,6 @@
 pub mod Rising
 pub mod Putting
 pub mod Openings
-pub mod Letters
 pub mod Items
 pub mod LengthLines
 pub mod LengthReplies

@@ -41,7 +41,8 @@ module _ (l : List ℕ) where
     item_short q = let k : length l ≤ h = omega arith in no_hex (rw (drop_of_length-le l k))
 
     -- k bytes are read into f
-    module _ (f : List ℕ) (k : ℕ) (n : length l ≤ most_input) (m : length f ≡ most_frame) (q : k ≡ hexed (take (length l - h) (drop h l)) f) where
+    module _ (f : List ℕ) (k : ℕ) (n : length l ≤ most_input) (m : length f ≡ most_frame)
+        (q : k ≡ hexed (take (length l - h) (drop h l)) f) where
       pub item_none : k ≡ 0 → item_of l ≡ bad
       item_none z = no_hex (frame_none l f h k n m q z)
 

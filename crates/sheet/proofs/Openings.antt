@@ -5,11 +5,12 @@ use mathlib.Core.Path.{◌≡◌, refl, sym, ap, ◌∙◌}
 use mathlib.Core.List.{List, []}
 use native.Mathlib.Omega.{arith}
 use lib.ListN.{length, take, drop, length-drop, drop_of_length-le}
-use lib.Seq.{length-take-le, take_all}
+use lib.Seq.{take_all}
 use Rattle.text.specs.declared.decimal.Number.{Number}
 use Rattle.text.specs.declared.decimal.Number.TheVariants as number
 use Rattle.text.specs.Pieces.{before, behind}
 use Rattle.text.specs.Decimal.{number_in}
+use Rattle.std.proofs.lemmas.Grind.{common_steps}
 use Rattle.text.proofs.Separators.{before_length, before_part}
 use Rattle.text.proofs.Readings.{none}
 use Rattle.sheet.specs.declared.lines.Line.{Line}
@@ -26,12 +27,6 @@ pub from_drop : (k : ℕ) (s : List ℕ) → from k s ≡ drop k s
 from_drop k s = take_all (length s - k) (drop k s) (omega (arith, length-drop k s))
 
 module _ (b : ℕ) (s : List ℕ) (n : ℕ) (e : n ≡ length (before b s)) where
-  pub inside : n ≤ length s
-  inside = omega (arith, before_length b s)
-
-  pub part_length : n ≡ length (take n s)
-  part_length = sym (length-take-le n s inside)
-
   front : take n s ≡ before b s
   front = ap (λ (k : ℕ). take k s) e ∙ before_part b s
 
@@ -66,5 +61,5 @@ module _ (r : List ℕ) (n : ℕ) (e : n ≡ length (before space r)) where
     unfolding frame_at
     both_read = rw (front space r n e, front space (from (n + 1) r) m d, d, all-behind space r n e, e)
 
-    pub near : (n ≡ length r → ⊥) → n + 1 + m ≤ length r
-    near o = omega (arith, inside space r n e, inside space (from (n + 1) r) m d, ap length (from_drop (n + 1) r), length-drop (n + 1) r)
+-- what the readers of a line need: an opening's two returns, what a part from a place on is, and how long the bytes in front of a space are
+pub ruleset parts = (no_space, both_read, from_drop, before_length, before_part, common_steps)

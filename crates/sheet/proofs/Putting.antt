@@ -9,6 +9,7 @@ use lib.ListN.{length, take, drop, length-append, take-append-drop}
 use lib.Seq.{drop-drop}
 use borrow.Author.Tests.{le-leb}
 use Rattle.text.specs.Buffers.{fits, put, next}
+use Rattle.std.proofs.lemmas.Grind.{common_steps}
 use Rattle.text.proofs.Buffering.{next_fits, put-taken, put-behind, put_length}
 
 put-fits : (d : List ℕ) (at : ℕ) (bs : List ℕ) → at + length bs ≤ length d → put d at bs ≡ take at d ++ (bs ++ drop (at + length bs) d)
@@ -83,3 +84,6 @@ module _ (d : List ℕ) (at : ℕ) (whole : List ℕ) (h : at + length whole ≤
 
   pub rest-none : Rest d at whole a e [] → Wrote d at whole a e
   rest-none p = let w = wrote_none e a (rest_room [] p) in (w.0 ∙ p.0, w.1 ∙ p.1)
+
+-- what the functions that put a piece behind another need: the pieces are one, and where there is room the place is behind it
+pub ruleset putting = (put_twice, wrote_none, next_fits, put_length, common_steps)

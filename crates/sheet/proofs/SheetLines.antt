@@ -5,7 +5,7 @@ use mathlib.Core.Path.{◌≡◌, refl, sym, ap, ◌∙◌}
 use mathlib.Core.List.{List, [], ◌∷◌}
 use native.Mathlib.Omega.{arith}
 use lib.Dec.{eqb}
-use lib.ListN.{length, take, drop, length-drop, drop_of_length-le}
+use lib.ListN.{length, take, drop, length-drop}
 use lib.Seq.{take_all}
 use borrow.Author.Tests.{eq-eqb, ne_eqb}
 use Rattle.slots.proofs.Truth.{split}
@@ -42,16 +42,6 @@ sheet_more (x ∷ r) h =
     rw (ne_eqb (suc (length r)) 0 (λ q. omega arith))
     (ap (λ (ls : List Item). item_of (first_line (x ∷ r)) ∷ ls)
     (items_enough (length r) (length o) o (omega (arith, others_length (x ∷ r))) (omega arith)))
-
--- ---- where the others begin: behind the line feed, or at the end
-
-module _ (s : List ℕ) (e : ℕ) (at : e ≡ length (first_line s)) where
-  pub past_feed : drop (e + 1) s ≡ other_lines s
-  unfolding behind
-  past_feed = ap (λ (k : ℕ). drop (k + 1) s) at
-
-  pub past_end : length s ≤ e → drop e s ≡ other_lines s
-  past_end h = let k : length s ≤ e + 1 = omega arith in drop_of_length-le s h ∙ sym (drop_of_length-le s k) ∙ past_feed
 
 pub past_part : (s : List ℕ) (k : ℕ) → drop k s ≡ other_lines s → take (length s - k) (drop k s) ≡ other_lines s
 past_part s k e = take_all (length s - k) (drop k s) (omega (arith, length-drop k s)) ∙ e

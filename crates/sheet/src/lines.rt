@@ -19,6 +19,7 @@ pub enum Line {
 const LEAD: usize = 2;
 
 // An opening whose numbers and place are read, or a line of another shape.
+#[tactic(auto, unfolding(crate::specs::Lines::opened_line))]
 fn opened(seat: Number, reading: Number, at: usize) -> Line
     ensures { result ≡ opened_line seat reading at }
 {
@@ -32,6 +33,7 @@ fn opened(seat: Number, reading: Number, at: usize) -> Line
 }
 
 // An opening, of which r is what follows the letter and the space.
+#[tactic(auto, using(crate::proofs::Openings::parts))]
 fn read_opening(r: &[u8]) -> Line
     ensures { result ≡ opened_line (number_in (before space r.now)) (number_in (before space (behind space r.now)))
         (frame_at r.now) }
@@ -48,6 +50,7 @@ fn read_opening(r: &[u8]) -> Line
 }
 
 // A step, of which r is what follows the letter and the space.
+#[tactic(auto, unfolding(crate::specs::Lines::stepped_line))]
 fn read_step(r: &[u8]) -> Line
     ensures { result ≡ stepped_line (number_in r.now) }
 {
@@ -58,6 +61,7 @@ fn read_step(r: &[u8]) -> Line
 }
 
 // What the line l says, without its line feed.
+#[tactic(auto, using(crate::proofs::Openings::parts), unfolding(crate::specs::Lines::line_of))]
 pub fn read_line(l: &[u8]) -> Line
     ensures { result ≡ line_of l.now }
 {

@@ -41,6 +41,7 @@ struct Told {
 }
 
 // A bad line, whose number is n.
+#[tactic(auto, unfolding(crate::specs::Listings::reply_to, crate::specs::Listings::world_after, crate::specs::Turns::told, crate::specs::Lines::is_bad))]
 fn list_bad(table: Table, dst: &mut [u8], at: usize, n: u32) -> Told
     requires { at + length (reply_to n (world table []) bad) ≤ length dst.old }
     ensures { (result ≡ told n (world table []) bad at) × (dst.new ≡ put dst.old at (reply_to n (world table []) bad)) }
@@ -55,6 +56,7 @@ fn list_bad(table: Table, dst: &mut [u8], at: usize, n: u32) -> Told
 }
 
 // An opening. Its reply has no line number, nor has that of a step.
+#[tactic(auto, unfolding(crate::specs::Listings::reply_to, crate::specs::Listings::world_after, crate::specs::Listings::opened, crate::specs::Turns::told, crate::specs::Lines::is_bad))]
 fn list_open(table: Table, dst: &mut [u8], at: usize, seat: u32, reading: u32, frame: &[u8]) -> Told
     requires { (sound_test owner_of table ≡ true) × (at + length (reply_to 0 (world table []) (opens seat reading frame.now)) ≤ length dst.old) }
     ensures { (result ≡ told 0 (world table []) (opens seat reading frame.now) at) × (dst.new ≡ put dst.old at (reply_to 0 (world table []) (opens seat reading frame.now))) }
@@ -70,6 +72,7 @@ fn list_open(table: Table, dst: &mut [u8], at: usize, seat: u32, reading: u32, f
     }
 }
 
+#[tactic(auto, unfolding(crate::specs::Listings::reply_to, crate::specs::Listings::world_after, crate::specs::Listings::stepped, crate::specs::Turns::told, crate::specs::Lines::is_bad))]
 fn list_step(table: Table, image: &mut [u32], dst: &mut [u8], at: usize, seat: u32) -> Told
     requires { (sound_test owner_of table ≡ true) × (at + length (reply_to 0 (world table image.old) (steps seat)) ≤ length dst.old) }
     ensures { (result ≡ told 0 (world table image.old) (steps seat) at) × ((dst.new ≡ put dst.old at (reply_to 0 (world table image.old) (steps seat))) × (image.new ≡ (world_after (world table image.old) (steps seat)).image)) }
@@ -116,6 +119,7 @@ fn list_line(
 }
 
 // Where the line behind the first one begins, which ends at e.
+#[tactic(auto, using(crate::proofs::Openings::parts), unfolding(text::specs::Pieces::behind))]
 fn past(s: &[u8], e: usize) -> usize
     requires { e ≡ length (first_line s.now) }
     ensures { (result ≤ length s.now) × (drop result s.now ≡ other_lines s.now) }

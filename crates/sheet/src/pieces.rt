@@ -7,6 +7,7 @@ ghost use Rattle.sheet.specs.Listings.{line};
 use text::{append, append_u32};
 
 // The bytes s and the digits of n.
+#[tactic(auto, using(crate::proofs::Putting::putting))]
 pub fn put_number(dst: &mut [u8], at: usize, s: &[u8], n: u32) -> usize
     requires { at + length (s.now ++ digits n) ≤ length dst.old }
     ensures { (result ≡ at + length (s.now ++ digits n)) × (dst.new ≡ put dst.old at (s.now ++ digits n)) }
@@ -16,6 +17,7 @@ pub fn put_number(dst: &mut [u8], at: usize, s: &[u8], n: u32) -> usize
 }
 
 // The same, and the end of the line.
+#[tactic(auto, using(crate::proofs::Putting::putting))]
 pub fn put_line(dst: &mut [u8], at: usize, s: &[u8], n: u32) -> usize
     requires { at + length (line (s.now ++ digits n)) ≤ length dst.old }
     ensures { (result ≡ at + length (line (s.now ++ digits n))) × (dst.new ≡ put dst.old at (line (s.now ++ digits n))) }

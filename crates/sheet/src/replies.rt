@@ -11,6 +11,7 @@ use crate::words::put_reply;
 use course::Word;
 
 // `o seat number`.
+#[tactic(auto, using(crate::proofs::Putting::putting), unfolding(crate::specs::Listings::open_line))]
 pub fn put_open(dst: &mut [u8], at: usize, seat: u32, number: u32) -> usize
     requires { at + length (open_line seat number) ≤ length dst.old }
     ensures { (result ≡ at + length (open_line seat number)) × (dst.new ≡ put dst.old at (open_line seat number)) }
@@ -20,6 +21,7 @@ pub fn put_open(dst: &mut [u8], at: usize, seat: u32, number: u32) -> usize
 }
 
 // `s seat word`, or `s seat no number`.
+#[tactic(auto, using(crate::proofs::Putting::putting), unfolding(crate::specs::Listings::step_line))]
 pub fn put_step(dst: &mut [u8], at: usize, seat: u32, number: u32, word: Word) -> usize
     requires { at + length (step_line seat number word) ≤ length dst.old }
     ensures { (result ≡ at + length (step_line seat number word)) × (dst.new ≡ put dst.old at (step_line seat number word)) }
@@ -29,6 +31,7 @@ pub fn put_step(dst: &mut [u8], at: usize, seat: u32, number: u32, word: Word) -
 }
 
 // `c cell value` for each non-zero cell, rising.
+#[tactic(auto, using(crate::proofs::Rising::lines_more, crate::proofs::Rising::lines_none, crate::proofs::Putting::putting))]
 pub fn put_cells(dst: &mut [u8], at: usize, image: &[u32]) -> usize
     requires { (at + length (cell_lines 0 image.now) ≤ length dst.old) × (length image.now ≡ cells) }
     ensures { (result ≡ at + length (cell_lines 0 image.now)) × (dst.new ≡ put dst.old at (cell_lines 0 image.now)) }
@@ -43,6 +46,7 @@ pub fn put_cells(dst: &mut [u8], at: usize, image: &[u32]) -> usize
 }
 
 // `e` and how many transactions ended.
+#[tactic(auto, unfolding(crate::specs::Listings::end_line))]
 pub fn put_end(dst: &mut [u8], at: usize, ended: u32) -> usize
     requires { at + length (end_line ended) ≤ length dst.old }
     ensures { (result ≡ at + length (end_line ended)) × (dst.new ≡ put dst.old at (end_line ended)) }
@@ -51,6 +55,7 @@ pub fn put_end(dst: &mut [u8], at: usize, ended: u32) -> usize
 }
 
 // `bad` and the line's number.
+#[tactic(auto, unfolding(crate::specs::Listings::bad_line))]
 pub fn put_bad(dst: &mut [u8], at: usize, n: u32) -> usize
     requires { at + length (bad_line n) ≤ length dst.old }
     ensures { (result ≡ at + length (bad_line n)) × (dst.new ≡ put dst.old at (bad_line n)) }
@@ -59,6 +64,7 @@ pub fn put_bad(dst: &mut [u8], at: usize, n: u32) -> usize
 }
 
 // 1 for a reply that ends a transaction.
+#[tactic(auto, unfolding(crate::specs::Listings::endings))]
 pub fn ends(word: Word) -> u32
     ensures { result ≡ endings word }
 {

@@ -10,6 +10,7 @@ use course::Word;
 use text::append;
 
 // The word of a reply.
+#[tactic(auto, using(crate::proofs::Putting::putting), unfolding(crate::specs::Words::word_bytes))]
 fn put_word(dst: &mut [u8], at: usize, word: Word) -> usize
     requires { at + length (word_bytes word) ≤ length dst.old }
     ensures { (result ≡ at + length (word_bytes word)) × (dst.new ≡ put dst.old at (word_bytes word)) }
@@ -27,6 +28,7 @@ fn put_word(dst: &mut [u8], at: usize, word: Word) -> usize
 }
 
 // A space, the word or `no number`, and the end of the line.
+#[tactic(auto, using(crate::proofs::Putting::putting), unfolding(crate::specs::Listings::reply_bytes))]
 pub fn put_reply(dst: &mut [u8], at: usize, number: u32, word: Word) -> usize
     requires { at + length (space ∷ line (reply_bytes number word)) ≤ length dst.old }
     ensures { (result ≡ at + length (space ∷ line (reply_bytes number word))) × (dst.new ≡ put dst.old at (space ∷ line (reply_bytes number word))) }

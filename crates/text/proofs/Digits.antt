@@ -6,10 +6,11 @@ use mathlib.Core.Bool.{Bool, true, false, cond}
 use mathlib.Core.List.{List, [], ◌∷◌, ◌++◌, append_assoc}
 use native.Mathlib.Omega.{arith}
 use native.Mathlib.Nat.{pow-suc}
-use lib.ListN.{length, take, drop, set, length-append, length-drop, length-set}
-use lib.Seq.{set_split, drop_at, length-take-le, take_all}
+use lib.ListN.{length, take, drop, set, length-append}
+use lib.Seq.{set_split, drop_at, length-take-le}
 use lib.Dec.{ltb}
 use borrow.Author.Tests.{lt-ltb, le-ltb, ltb-true, ltb-false}
+use Rattle.std.proofs.lemmas.Grind.{common_steps}
 use Rattle.text.specs.Decimal.{zero_byte, largest, digits_in, digits, most_digits}
 
 -- ---- one step of the definition
@@ -87,7 +88,5 @@ module _ (s l : List ℕ) (f : List ℕ) (i : ℕ) (some : 1 ≤ i) (room : i �
       let z : drop (i - 1) (set f (i - 1) b) ≡ b ∷ drop i f = filled f (i - 1) b (omega arith) ∙ ap (λ (k : ℕ). b ∷ drop k f) n in
       e ∙ ap (λ (x : List ℕ). x ++ drop i f) q ∙ append_assoc d (b ∷ []) (drop i f) ∙ ap (λ (x : List ℕ). d ++ x) (sym z)
 
-  pub filled-all : (n b : ℕ) → length f ≡ n → l ≡ b ∷ [] → take (n - (i - 1)) (drop (i - 1) (set f (i - 1) b)) ≡ s
-  filled-all n b h q =
-      let g = set f (i - 1) b in
-      take_all (n - (i - 1)) (drop (i - 1) g) (omega (arith, length-drop (i - 1) g, length-set f (i - 1) b)) ∙ sym (filled_more [] b q)
+-- what the loop that fills a list with digits needs
+pub ruleset filling = (length_digits, digits_one, digits_more, length_one, length_more, filled_more, common_steps)

@@ -3,15 +3,16 @@
 use Prim.Native.Nat.{ℕ, zero, suc, ◌+◌, ◌-◌, ◌*◌, ◌/◌, ◌≤◌, ◌<◌}
 use mathlib.Core.Path.{◌≡◌, refl, sym, ap, ap₂, ◌∙◌}
 use mathlib.Core.Logic.{◌⊎◌, inl, inr, ⊎_elim}
-use mathlib.Core.Bool.{Bool, true, false, false≢true, ◌&&◌, ◌||◌, and-false}
-use mathlib.Core.List.{List, [], ◌∷◌, ◌++◌}
+use mathlib.Core.Bool.{Bool, true, false, false≢true, ◌&&◌, ◌||◌}
+use mathlib.Core.List.{List, [], ◌∷◌}
 use native.Mathlib.Omega.{arith}
 use native.Mathlib.Numerals.{add-one}
-use lib.ListN.{length, get_or, take, drop, set, drop_of_length-le}
-use lib.Seq.{drop-cons, take-length, paste, paste-suc}
-use lib.Dec.{ltb, leb, eqb, leb-suc-suc}
-use borrow.Author.Tests.{le-leb, lt-leb, lt-ltb, le-ltb, leb-true, ltb-true, eqb-true, eqb-false}
-use Rattle.text.specs.Hex.{is_numeral, is_letter, nibble, all_hex, hex_bytes, is_hex, can_hex, hexed, hexed_into}
+use lib.ListN.{length, get_or, drop, set, drop_of_length-le}
+use lib.Seq.{drop-cons, paste, paste-suc}
+use lib.Dec.{ltb, leb, eqb}
+use borrow.Author.Tests.{le-leb, lt-ltb, le-ltb, leb-true, ltb-true, eqb-true, eqb-false}
+use Rattle.std.proofs.lemmas.Grind.{common_steps}
+use Rattle.text.specs.Hex.{is_numeral, is_letter, nibble, all_hex, hex_bytes}
 
 -- 0 to 9 or a to f
 abbrev pub is_nibble : ℕ → Bool
@@ -29,18 +30,6 @@ module _ (b : ℕ) where
   no_numeral : 58 ≤ b → is_numeral b ≡ false
   no_numeral l = rw (le-leb 48 b (omega arith), le-ltb b 58 l)
 
-  pub below_0 : b < 48 → false ≡ is_nibble b
-  below_0 h = rw (lt-leb 48 b h, lt-leb 97 b (omega arith))
-
-  pub numeral_is : 48 ≤ b → b < 58 → true ≡ is_nibble b
-  numeral_is l m = rw (numeral l m)
-
-  pub below_a : 58 ≤ b → b < 97 → false ≡ is_nibble b
-  below_a l m = rw (no_numeral l, lt-leb 97 b m)
-
-  pub from_a : 97 ≤ b → leb b 102 ≡ is_nibble b
-  from_a l = rw (no_numeral (omega arith), le-leb 97 b l) (sym (leb-suc-suc b 102))
-
   -- ---- what a nibble is worth
 
   range : is_nibble b ≡ true → ((48 ≤ b) × (b < 58)) ⊎ ((97 ≤ b) × (b < 103))
@@ -54,20 +43,20 @@ module _ (b : ℕ) where
       go false q true x y z e = inr (leb-true 97 b z, ltb-true b 103 e)
       go false q false x y z e = absurd (false≢true e)
 
-  pub worth_numeral : is_nibble b ≡ true → b < 58 → (48 ≤ b) × ((b - 48 ≡ nibble b) × (b - 48 < 16))
+  pub worth_numeral : is_nibble b ≡ true → b < 58 → (b - 48 ≡ nibble b) × (b - 48 < 16)
   unfolding nibble
   worth_numeral e h =
       ⊎_elim
-      (λ (w : (48 ≤ b) × (b < 58)). (w.0, (rw (numeral w.0 h), omega arith)))
+      (λ (w : (48 ≤ b) × (b < 58)). (rw (numeral w.0 h), omega arith))
       (λ (w : (97 ≤ b) × (b < 103)). absurd (omega arith))
       (range e)
 
-  pub worth_letter : is_nibble b ≡ true → 58 ≤ b → (97 ≤ b) × ((b - 97 + 10 ≡ nibble b) × (b - 97 + 10 < 16))
+  pub worth_letter : is_nibble b ≡ true → 58 ≤ b → (b - 97 + 10 ≡ nibble b) × (b - 97 + 10 < 16)
   unfolding nibble
   worth_letter e h =
       ⊎_elim
       (λ (w : (48 ≤ b) × (b < 58)). absurd (omega arith))
-      (λ (w : (97 ≤ b) × (b < 103)). (w.0, (rw (no_numeral h) (omega arith), omega arith)))
+      (λ (w : (97 ≤ b) × (b < 103)). (rw (no_numeral h) (omega arith), omega arith))
       (range e)
 
 -- ---- the test, from the place i on
@@ -80,7 +69,8 @@ module _ (s : List ℕ) (i : ℕ) where
       drop-cons s (i + 1) 0 (omega arith) ∙ ap (λ (k : ℕ). get_or s (i + 1) 0 ∷ drop k s) e in
       drop-cons s i 0 (omega arith) ∙ ap (λ (l : List ℕ). get_or s i 0 ∷ l) (ap (λ (k : ℕ). drop k s) (sym (add-one i)) ∙ t)
 
-  pub two_more : 1 < length s - i → all_hex (drop i s) ≡ (is_nibble (get_or s i 0) && (is_nibble (get_or s (i + 1) 0) && all_hex (drop (i + 2) s)))
+  pub two_more : 1 < length s - i
+      → all_hex (drop i s) ≡ (is_nibble (get_or s i 0) && (is_nibble (get_or s (i + 1) 0) && all_hex (drop (i + 2) s)))
   unfolding all_hex
   two_more h = ap all_hex (two h)
 
@@ -101,7 +91,8 @@ bytes_length [] = refl
 bytes_length (a ∷ []) = refl
 bytes_length (a ∷ b ∷ s) = omega (arith, bytes_length s)
 
-pub byte_at : (s : List ℕ) (i : ℕ) → 2 * i + 1 < length s → get_or (hex_bytes s) i 0 ≡ nibble (get_or s (2 * i) 0) * 16 + nibble (get_or s (2 * i + 1) 0)
+pub byte_at : (s : List ℕ) (i : ℕ) → 2 * i + 1 < length s
+    → get_or (hex_bytes s) i 0 ≡ nibble (get_or s (2 * i) 0) * 16 + nibble (get_or s (2 * i + 1) 0)
 unfolding hex_bytes
 byte_at [] i h = absurd (omega arith)
 byte_at (a ∷ []) i h = absurd (omega arith)
@@ -123,21 +114,12 @@ nibbles_at (x ∷ y ∷ s) (suc i) a h =
     let k = nibbles_at s i (both (is_nibble x) (is_nibble y) (all_hex s) a).1.1 (omega arith) in
     (ap (λ (j : ℕ). is_nibble (get_or (x ∷ y ∷ s) j 0)) e ∙ k.0, ap (λ (j : ℕ). is_nibble (get_or (x ∷ y ∷ s) j 0)) f ∙ k.1)
 
--- ---- the answer, by the ways through the code
+pub second_nibble : (s : List ℕ) (i : ℕ) → all_hex s ≡ true → 2 * i + 1 < length s → is_nibble (get_or s (2 * i + 1) 0) ≡ true
+second_nibble s i a h = (nibbles_at s i a h).1
+
+-- ---- the decoding
 
 module _ (s d : List ℕ) where
-  refused : can_hex s d ≡ false → (0 ≡ hexed s d) × (d ≡ hexed_into s d)
-  unfolding hexed hexed_into
-  refused e = (rw e, rw e)
-
-  pub refused_room : length d < length s / 2 → (0 ≡ hexed s d) × (d ≡ hexed_into s d)
-  unfolding can_hex
-  refused_room h = refused (rw (bytes_length s, lt-leb (length s / 2) (length d) h) (and-false (is_hex s)))
-
-  pub refused_hex : all_hex s ≡ false → (0 ≡ hexed s d) × (d ≡ hexed_into s d)
-  unfolding can_hex is_hex
-  refused_hex e = refused (rw e (ap (λ (b : Bool). b && leb (length (hex_bytes s)) (length d)) (and-false (leb 1 (length s)))))
-
   -- one byte more
   pub decoded_more : (i : ℕ) {e : List ℕ} {x y : ℕ} → 2 * i + 1 < length s → i < length d → e ≡ paste d 0 (hex_bytes s) i
       → x ≡ nibble (get_or s (2 * i) 0) → y ≡ nibble (get_or s (2 * i + 1) 0) → set e i (x * 16 + y) ≡ paste d 0 (hex_bytes s) (i + 1)
@@ -149,19 +131,5 @@ module _ (s d : List ℕ) where
       ∙ paste-suc d 0 (hex_bytes s) i 0 (omega arith) (omega (arith, bytes_length s))
       ∙ ap (paste d 0 (hex_bytes s)) (sym (add-one i))
 
-  pub decoded : (i : ℕ) {n : ℕ} {e : List ℕ} → n ≡ length s / 2 → 1 ≤ n → n ≤ length d → all_hex s ≡ true → e ≡ paste d 0 (hex_bytes s) i → i ≡ n
-      → (n ≡ hexed s d) × (e ≡ hexed_into s d)
-  unfolding hexed hexed_into can_hex is_hex
-  decoded i {n} q l m a p o =
-      let k : length (hex_bytes s) ≡ n = bytes_length s ∙ sym q in
-      let z : 0 + i ≡ n = omega arith in
-      let x : take i (hex_bytes s) ≡ hex_bytes s = ap (λ (j : ℕ). take j (hex_bytes s)) (o ∙ sym k) ∙ take-length (hex_bytes s) in
-      let t = le-leb 1 (length s) (omega arith) in
-      let r = le-leb n (length d) m in
-      (rw (t, a, k, r), p ∙ ap₂ (λ (y : List ℕ) (j : ℕ). y ++ drop j d) x z ∙ rw (t, a, k, r))
-
-pub refused_none : (s d : List ℕ) → length s / 2 ≡ 0 → (0 ≡ hexed s d) × (d ≡ hexed_into s d)
-unfolding can_hex is_hex all_hex
-refused_none [] d h = refused [] d refl
-refused_none (a ∷ []) d h = refused (a ∷ []) d refl
-refused_none (a ∷ b ∷ s) d h = absurd (omega arith)
+-- what the decoding needs
+pub ruleset decoding = (bytes_length, nibbles_at, second_nibble, decoded_more, common_steps)

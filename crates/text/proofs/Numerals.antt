@@ -31,7 +31,8 @@ unfolding all_digits
 all_last [] b e p = rw p
 all_last (x ∷ s) b e p = go (is_digit x) e (λ h. all_last s b h p)
   where
-    go : (t : Bool) → (t && all_digits s) ≡ true → (all_digits s ≡ true → all_digits (s ++ (b ∷ [])) ≡ true) → (t && all_digits (s ++ (b ∷ []))) ≡ true
+    go : (t : Bool) → (t && all_digits s) ≡ true
+        → (all_digits s ≡ true → all_digits (s ++ (b ∷ [])) ≡ true) → (t && all_digits (s ++ (b ∷ []))) ≡ true
     go true h f = f h
     go false h f = h
 

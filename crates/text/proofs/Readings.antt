@@ -52,7 +52,8 @@ module _ (s : List ℕ) where
       go true false = refl
       go false b = refl
 
-  pub is_number_lem : (v : ℕ) → all_digits s ≡ true → 1 ≤ length s → (get_or s 0 0 ≡ zero_byte → ⊥) → value_of s ≡ v → v ≤ largest → Value v ≡ number_in s
+  pub is_number_lem : (v : ℕ) → all_digits s ≡ true → 1 ≤ length s → (get_or s 0 0 ≡ zero_byte → ⊥)
+      → value_of s ≡ v → v ≤ largest → Value v ≡ number_in s
   unfolding number_in is_number is_plain
   is_number_lem v a l n e h = rw (a, ne_eqb (get_or s 0 0) zero_byte n, le-leb 1 (length s) l, e, le-leb v largest h)
 
@@ -92,3 +93,6 @@ pub all_passed : (s : List ℕ) (v i : ℕ) → length s ≤ i → 1 ≤ length 
 unfolding all_digits value_from
 all_passed s v i h l n a e m =
     let z : drop i s ≡ [] = drop_of_length-le s h in is_number_lem s v (a ∙ ap all_digits z) l n (e ∙ ap (value_from v) z) m
+
+-- what the reader of numbers needs: its returns, and what a turn of its loop does
+pub ruleset reading = (none, nought, padded, not_digits, stop_low, stop_high, digit_passed, value_passed, too_large_already, all_passed)

@@ -46,3 +46,6 @@ module _ (b : ℕ) (s : List ℕ) (i : ℕ) where
   pub ended : length s ≤ i → length (before b (drop i s)) ≡ 0
   unfolding before
   ended h = rw (drop_of_length-le s h)
+
+-- what the search of a byte needs
+pub ruleset searching = (met, passed, ended)

@@ -7,6 +7,7 @@ ghost use Rattle.text.specs.Buffers.{put, next};
 const MOST_DIGITS: usize = 10;
 
 // The bytes s at the place `at`: the place behind them. Where they do not fit nothing is written.
+#[tactic(auto, using(crate::proofs::Buffering::copying), unfolding(crate::specs::Buffers::next, crate::specs::Buffers::put, crate::specs::Buffers::fits))]
 pub fn append(dst: &mut [u8], at: usize, s: &[u8]) -> usize
     ensures { (result ≡ next dst.old at s.now) × (dst.new ≡ put dst.old at s.now) }
 {
@@ -26,6 +27,7 @@ pub fn append(dst: &mut [u8], at: usize, s: &[u8]) -> usize
 
 // The decimal digits of n at the place `at`, in the same way. They are found from the last to the
 // first, and m is what is left of n.
+#[tactic(auto, using(crate::proofs::Digits::filling))]
 pub fn append_u32(dst: &mut [u8], at: usize, n: u32) -> usize
     ensures { (result ≡ next dst.old at (digits n)) × (dst.new ≡ put dst.old at (digits n)) }
 {

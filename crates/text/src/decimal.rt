@@ -12,6 +12,7 @@ pub enum Number {
 const LARGEST: u64 = 4294967295;
 
 // The number that the whole of s is.
+#[tactic(auto, using(crate::proofs::Readings::reading), unfolding(crate::specs::Decimal::value_of))]
 pub fn read_number(s: &[u8]) -> Number
     ensures { result ≡ number_in s.now }
 {

@@ -19,6 +19,7 @@ fn is_nibble(b: u8) -> bool
 }
 
 // Is s hex throughout, two for each byte?
+#[tactic(auto, using(crate::proofs::Nibbles::two_more, crate::proofs::Nibbles::at_end))]
 fn is_all_hex(s: &[u8]) -> bool
     ensures { result ≡ all_hex s.now }
 {
@@ -36,6 +37,7 @@ fn is_all_hex(s: &[u8]) -> bool
 }
 
 // What b stands for.
+#[tactic(auto, using(crate::proofs::Nibbles::worth_numeral, crate::proofs::Nibbles::worth_letter))]
 fn nibble_of(b: u8) -> u8
     requires { (is_numeral b || is_letter b) ≡ true }
     ensures { (result ≡ nibble b) × (result < 16) }
@@ -45,6 +47,7 @@ fn nibble_of(b: u8) -> u8
 
 // The bytes that s stands for, at the front of dst: how many they are. None, and dst as it was,
 // where s is no hex or dst is too short.
+#[tactic(auto, using(crate::proofs::Nibbles::decoding), unfolding(crate::specs::Hex::hexed, crate::specs::Hex::hexed_into, crate::specs::Hex::can_hex, crate::specs::Hex::is_hex))]
 pub fn read_hex(s: &[u8], dst: &mut [u8]) -> usize
     ensures { (result ≡ hexed s.now dst.old) × (dst.new ≡ hexed_into s.now dst.old) }
 {
