@@ -7,8 +7,8 @@ use Rattle.course.specs.declared.wants.Want.{Want}
 use Rattle.course.specs.declared.wants.Want.TheVariants.{Back, End, Nothing, Access, NoCell}
 use Rattle.course.specs.declared.cases.Case.{Case}
 use Rattle.course.specs.declared.cases.Case.TheVariants as case
-use Rattle.course.specs.declared.cases.Word.{Word}
-use Rattle.course.specs.declared.cases.Word.TheVariants as word
+use Rattle.course.specs.Words.{Word}
+use Rattle.course.specs.Words as word
 
 -- if it is in the queue of s, blocked; otherwise it joins the tail
 unfoldable pub waiting : Bool → Slot → Case

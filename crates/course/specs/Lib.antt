@@ -1,3 +1,4 @@
+pub mod Words
 pub mod Wants
 pub mod Cases
 pub mod Steps

@@ -1,5 +1,5 @@
 -- What a case does: to the seat, to the slot table, to the image; and with it the whole step.
-use Rattle.std.specs.Prelude.{ℕ, ◌+◌, ◌≤◌, List}
+use Rattle.std.specs.Prelude.{ℕ, ◌+◌, ◌≤◌, Bool, false, List}
 use Rattle.slots.specs.declared.set.SlotSet.{SlotSet}
 use Rattle.slots.specs.Sets.{none, adding, removing, above, size}
 use Rattle.script.specs.Scripts.{max_instructions}
@@ -12,10 +12,12 @@ use Rattle.seats.specs.declared.slot_table.SlotTable.{SlotTable}
 use Rattle.seats.specs.Seats.{most_restarts, most_working, blank_run, opened_run}
 use Rattle.seats.specs.Queues.{waits_in}
 use Rattle.seats.specs.SlotTables.{held_by, queue_of, owned, taken, joined_by, released}
+use Rattle.course.specs.declared.wants.Want.{Want}
+use Rattle.course.specs.declared.wants.Want.TheVariants.{Back, End, Nothing, Access, NoCell}
 use Rattle.course.specs.declared.cases.Case.{Case}
 use Rattle.course.specs.declared.cases.Case.TheVariants as case
 use Rattle.runs.specs.Runs.{kept_writes, written, after_act}
-use Rattle.course.specs.declared.turns.Turn.{Turn}
+use Rattle.course.specs.Words.{Word}
 use Rattle.course.specs.Wants.{act_at, want_of, slot_of}
 use Rattle.course.specs.Cases.{case_for, word_of}
 
@@ -95,6 +97,23 @@ image_after case.Failed ρ img = img
 image_after (case.Restarted s) ρ img = img
 
 -- ---- all of it, of seat i: z is the seat and t the slot table
+
+-- the reply, and the seat and the slot table after it
+pub record Turn : Type 0 where
+  pub word : Word
+  pub seat : Seat
+  pub slots : SlotTable
+
+abbrev pub turn : Word → Seat → SlotTable → Turn
+turn w z t = record { word = w; seat = z; slots = t }
+
+-- seat i is in the queue of the slot that it wants, if it wants one
+unfoldable pub waits_for : Want → SlotTable → ℕ → Bool
+waits_for (Back s) t i = waits_in (queue_of t s.0) i
+waits_for End t i = false
+waits_for Nothing t i = false
+waits_for (Access s) t i = waits_in (queue_of t s.0) i
+waits_for NoCell t i = false
 
 module _ (own : ℕ → ℕ) where
   abbrev pub case_in : Seat → SlotTable → ℕ → Case

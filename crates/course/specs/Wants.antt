@@ -1,7 +1,8 @@
 -- What a seat wants, which depends on the seat alone: 'One step of an open seat' and rule 4 of 'A sound table' ask the same.
-use Rattle.std.specs.Prelude.{ℕ, cond, ltb, get_or}
+use Rattle.std.specs.Prelude.{ℕ, cond, ltb, get_or, Option, Some, None}
 use Rattle.slots.specs.Sizes.{cells, slots}
 use Rattle.slots.specs.Sets.{slot, is_empty, smallest}
+use Rattle.slots.specs.declared.Slot.{Slot}
 use Rattle.script.specs.Scripts.{no_instr}
 use Rattle.script.specs.Meaning.{Act, local, reads, writes, act_of}
 use Rattle.seats.specs.declared.seat.Seat.{Seat}
@@ -36,3 +37,8 @@ slot_of End = slots
 slot_of Nothing = slots
 slot_of (Access s) = s.0
 slot_of NoCell = slots
+
+-- what each answer about it says
+unfoldable pub said_slot : Option Slot → ℕ
+said_slot None = slots
+said_slot (Some s) = s.0

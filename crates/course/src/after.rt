@@ -1,154 +1,101 @@
 // What a case does to the seat, to the slot table and to the image.
 ghost use Rattle.std.specs.Prelude.{◌≡◌, ◌≤◌};
-ghost use Rattle.script.specs.Scripts.{max_instructions};
 ghost use Rattle.seats.specs.Seats.{most_restarts, most_working};
 ghost use Rattle.runs.specs.Runs.{after_act};
 ghost use Rattle.course.specs.Wants.{act_at};
-ghost use Rattle.course.specs.Steps.{worked, goes_on, restarted, ended, seat_after, slots_after, image_after, Fits};
+ghost use Rattle.course.specs.Steps.{goes_on, restarted, ended, seat_after, slots_after, image_after, Fits};
 
 use crate::Case;
-use runs::{after_instr, write_kept};
-use script::{Instr, MAX_INSTRUCTIONS};
-use seats::{Phase, Run, Seat, SlotTable, Tally};
+use crate::wants::instr_at;
+use runs::{carry_out, write_kept};
+use seats::{Phase, Run, Seat, SlotTable};
 use slots::{Slot, SlotSet};
 
-fn worked(t: Tally) -> Tally
-    requires { t.working ≤ most_working }
-    ensures { result ≡ worked t }
+// The seat goes on with this pending, and a step more has been worked.
+fn go_on(z: &mut Seat, pending: SlotSet)
+    requires { z.old.tally.working ≤ most_working }
+    ensures { z.new ≡ goes_on z.old z.old.run pending }
 {
-    Tally {
-        working: t.working + 1,
-        ..t
-    }
+    z.pending = pending;
+    z.tally.working += 1;
 }
 
-fn goes_on(z: Seat, run: Run, pending: SlotSet) -> Seat
-    requires { z.tally.working ≤ most_working }
-    ensures { result ≡ goes_on z run pending }
+// The same, and it carries out its instruction.
+#[tactic(auto, unfolding(crate::specs::Wants::act_at))]
+fn run_on(z: &mut Seat, image: &[u32])
+    requires { Fits z.old }
+    ensures { z.new ≡ goes_on z.old (after_act (act_at z.old) image.now z.old.run) z.old.pending }
 {
-    let t = z.tally;
-    let tally = worked(t);
-    Seat {
-        run,
-        pending,
-        tally,
-        ..z
-    }
+    let x = instr_at(z);
+    carry_out(&mut z.run, x, image);
+    z.tally.working += 1;
 }
 
 #[tactic(auto, unfolding(crate::specs::Steps::restarted))]
-fn restarted(z: Seat, held: SlotSet, s: Slot) -> Seat
-    requires { (z.tally.working ≤ most_working) × (z.tally.restarts ≤ most_restarts) }
-    ensures { result ≡ restarted z held s.0 }
+fn restart(z: &mut Seat, held: SlotSet, s: Slot)
+    requires working { z.old.tally.working ≤ most_working }
+    requires restarts { z.old.tally.restarts ≤ most_restarts }
+    ensures { z.new ≡ restarted z.old held s.0 }
 {
-    let t = z.tally;
-    let tally = Tally {
-        restarts: t.restarts + 1,
-        working: t.working + 1,
-        slots: t.slots,
-    };
-    let run = Run::opened(z.run.reading);
     let higher = held.above(s);
-    let pending = higher.with(s);
-    Seat {
-        run,
-        pending,
-        tally,
-        ..z
-    }
+    z.run = Run::opened(z.run.reading);
+    z.pending = higher.with(s);
+    z.tally.restarts += 1;
+    z.tally.working += 1;
 }
 
 #[tactic(auto, unfolding(crate::specs::Steps::ended, seats::specs::Seats::blank_run))]
-fn ended(z: Seat, held: SlotSet, phase: Phase) -> Seat
-    requires { z.tally.working ≤ most_working }
-    ensures { result ≡ ended z held phase }
+fn end(z: &mut Seat, held: SlotSet, phase: Phase)
+    requires { z.old.tally.working ≤ most_working }
+    ensures { z.new ≡ ended z.old held phase }
 {
-    let t = z.tally;
-    let tally = Tally {
-        restarts: t.restarts,
-        working: t.working + 1,
-        slots: held.count(),
+    z.phase = phase;
+    z.run = Run {
+        regs: z.run.regs,
+        ..Run::BLANK
     };
-    let regs = z.run.regs;
-    let run = Run { regs, ..Run::BLANK };
-    let pending = SlotSet::EMPTY;
-    Seat {
-        phase,
-        run,
-        pending,
-        tally,
-        ..z
-    }
+    z.pending = SlotSet::EMPTY;
+    z.tally.working += 1;
+    z.tally.slots = held.count();
 }
 
-// The run after the seat's own instruction.
-#[tactic(auto, unfolding(crate::specs::Wants::act_at))]
-fn ran(z: Seat, image: &[u32]) -> Run
-    requires { Fits z }
-    ensures { result ≡ after_act (act_at z) image.now z.run }
-{
-    let s = z.script;
-    let run = z.run;
-    let at = run.at;
-    if at < MAX_INSTRUCTIONS {
-        let x = s.code[at];
-        after_instr(run, x, image)
-    } else {
-        after_instr(run, Instr::NONE, image)
-    }
-}
-
-// The seat z, which holds `held`, after the case.
+// The case of a seat that holds `held`, and reads this image.
 #[tactic(auto, unfolding(crate::specs::Steps::seat_after))]
-pub fn seat_after(c: Case, z: Seat, held: SlotSet, image: &[u32]) -> Seat
-    requires { Fits z }
-    ensures { result ≡ seat_after c z held image.now }
-{
-    let run = z.run;
-    let p = z.pending;
-    match c {
-        Case::Got(s) => goes_on(z, run, p.without(s)),
-        Case::Blocked => z,
-        Case::Queued(_) => goes_on(z, run, p),
-        Case::Committed => ended(z, held, Phase::Committed),
-        Case::Ran => goes_on(z, ran(z, image), p),
-        Case::Took(_) => goes_on(z, ran(z, image), p),
-        Case::Failed => ended(z, held, Phase::Failed),
-        Case::Restarted(s) => restarted(z, held, s),
-    }
-}
-
-// The slot table after the case of seat i.
-#[tactic(auto, unfolding(crate::specs::Steps::slots_after))]
-pub fn slots_after(c: Case, t: SlotTable, i: u8) -> SlotTable
-    ensures { result ≡ slots_after c t i }
+pub fn change_seat(c: Case, z: &mut Seat, held: SlotSet, image: &[u32])
+    requires { Fits z.old }
+    ensures { z.new ≡ seat_after c z.old held image.now }
 {
     match c {
-        Case::Got(s) => t.taken(i, s),
-        Case::Blocked => t,
-        Case::Queued(s) => t.joined(i, s),
-        Case::Committed => t.released(i, t.held_by(i)),
-        Case::Ran => t,
-        Case::Took(s) => t.taken(i, s),
-        Case::Failed => t.released(i, t.held_by(i)),
-        Case::Restarted(s) => t.released(i, t.held_by(i).above(s)),
-    }
-}
-
-// The image after the case of a seat with this run.
-#[tactic(auto, unfolding(crate::specs::Steps::image_after))]
-pub fn image_after(c: Case, run: Run, image: &mut [u32])
-    requires { run.kept ≤ max_instructions }
-    ensures { image.new ≡ image_after c run image.old }
-{
-    match c {
-        Case::Got(_) => {}
+        Case::Got(s) => go_on(z, z.pending.without(s)),
         Case::Blocked => {}
-        Case::Queued(_) => {}
-        Case::Committed => write_kept(run, image),
-        Case::Ran => {}
-        Case::Took(_) => {}
-        Case::Failed => {}
-        Case::Restarted(_) => {}
+        Case::Queued(_) => go_on(z, z.pending),
+        Case::Committed => end(z, held, Phase::Committed),
+        Case::Ran | Case::Took(_) => run_on(z, image),
+        Case::Failed => end(z, held, Phase::Failed),
+        Case::Restarted(s) => restart(z, held, s),
+    }
+}
+
+// The case of seat i.
+#[tactic(auto, unfolding(crate::specs::Steps::slots_after))]
+pub fn change_slots(c: Case, t: &mut SlotTable, i: u8)
+    ensures { t.new ≡ slots_after c t.old i }
+{
+    match c {
+        Case::Got(s) | Case::Took(s) => t.take(i, s),
+        Case::Queued(s) => t.join(i, s),
+        Case::Committed | Case::Failed => t.release(i, t.held_by(i)),
+        Case::Restarted(s) => t.release(i, t.held_by(i).above(s)),
+        Case::Blocked | Case::Ran => {}
+    }
+}
+
+// The case of a seat with this run.
+#[tactic(auto, unfolding(crate::specs::Steps::image_after))]
+pub fn change_image(c: Case, run: &Run, image: &mut [u32])
+    ensures { image.new ≡ image_after c run.now image.old }
+{
+    if let Case::Committed = c {
+        write_kept(run, image);
     }
 }

@@ -1,11 +1,13 @@
 // Which case a step is.
 ghost use Rattle.std.specs.Prelude.{◌≡◌};
+ghost use Rattle.course.specs.Words.{said_word};
 ghost use Rattle.course.specs.Cases.{waiting, case_for, word_of};
 
 use crate::Want;
 use slots::{Slot, SlotSet};
+use std::fmt;
 
-#[derive(Clone, Copy)]
+#[derive(Clone, Copy, Debug, PartialEq, Eq)]
 pub enum Case {
     Got(Slot),
     Blocked,
@@ -17,10 +19,9 @@ pub enum Case {
     Restarted(Slot),
 }
 
-// The reply to a step; `None` to a refused one.
-#[derive(Clone, Copy)]
+// The reply to a step.
+#[derive(Clone, Copy, Debug, PartialEq, Eq)]
 pub enum Word {
-    None,
     Got,
     Blocked,
     Queued,
@@ -30,18 +31,31 @@ pub enum Word {
     Restarted,
 }
 
+impl fmt::Display for Word {
+    fn fmt<W: fmt::Write>(&self, f: &mut fmt::Formatter<W>) -> fmt::Result {
+        f.write_str(match self {
+            Word::Got => "got",
+            Word::Blocked => "blocked",
+            Word::Queued => "queued",
+            Word::Committed => "committed",
+            Word::Ran => "ran",
+            Word::Failed => "failed",
+            Word::Restarted => "restarted",
+        })
+    }
+}
+
 impl Case {
-    #[tactic(auto, unfolding(crate::specs::Cases::word_of))]
+    #[tactic(auto, unfolding(crate::specs::Cases::word_of, crate::specs::Words::said_word))]
     pub fn word(self) -> Word
-        ensures { result ≡ word_of self }
+        ensures { said_word result ≡ word_of self }
     {
         match self {
             Case::Got(_) => Word::Got,
             Case::Blocked => Word::Blocked,
             Case::Queued(_) => Word::Queued,
             Case::Committed => Word::Committed,
-            Case::Ran => Word::Ran,
-            Case::Took(_) => Word::Ran,
+            Case::Ran | Case::Took(_) => Word::Ran,
             Case::Failed => Word::Failed,
             Case::Restarted(_) => Word::Restarted,
         }
@@ -63,13 +77,11 @@ fn waiting(waits: bool, s: Slot) -> Case
 fn case_back(s: Slot, held: SlotSet, owned: SlotSet, waits: bool) -> Case
     ensures { result ≡ case_for (Want.Back s) held owned waits }
 {
-    if held.has(s) {
-        return Case::Got(s);
+    if held.has(s) || !owned.has(s) {
+        Case::Got(s)
+    } else {
+        waiting(waits, s)
     }
-    if !owned.has(s) {
-        return Case::Got(s);
-    }
-    waiting(waits, s)
 }
 
 #[tactic(auto, unfolding(crate::specs::Cases::case_for))]
@@ -77,13 +89,10 @@ fn case_access(s: Slot, held: SlotSet, owned: SlotSet, waits: bool) -> Case
     ensures { result ≡ case_for (Want.Access s) held owned waits }
 {
     if held.has(s) {
-        return Case::Ran;
-    }
-    if !owned.has(s) {
-        return Case::Took(s);
-    }
-    let higher = held.above(s);
-    if higher.is_empty() {
+        Case::Ran
+    } else if !owned.has(s) {
+        Case::Took(s)
+    } else if held.above(s).is_empty() {
         waiting(waits, s)
     } else {
         Case::Restarted(s)

@@ -7,5 +7,5 @@ mod turns;
 mod wants;
 
 pub use cases::{Case, Word};
-pub use turns::{Turn, take_turn};
-pub use wants::{Want, want_of};
+pub use turns::take_turn;
+pub use wants::{Want, instr_at, want_of};

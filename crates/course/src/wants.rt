@@ -1,16 +1,17 @@
 // What a seat wants.
-ghost use Rattle.std.specs.Prelude.{◌≡◌};
+ghost use Rattle.std.specs.Prelude.{◌≡◌, get_or};
 ghost use Rattle.slots.specs.Owners.{listed};
+ghost use Rattle.script.specs.Scripts.{no_instr};
 ghost use Rattle.script.specs.Meaning.{act_of};
-ghost use Rattle.course.specs.Wants.{want_cell, want_act, want_of, slot_of};
+ghost use Rattle.course.specs.Wants.{want_cell, want_act, want_of, said_slot, slot_of};
 
-use script::{Access, Instr, MAX_INSTRUCTIONS, REGISTERS};
+use script::{Access, Instr, Registers};
 use seats::Seat;
-use slots::{CELLS, Cell, OwnerList, SLOTS, Slot, listed};
+use slots::{CELLS, Cell, OwnerList, Slot, listed};
 
 // A pending slot back; the end; nothing, for an instruction that accesses no cell; the slot of the
 // cell that it accesses; a cell that is not there.
-#[derive(Clone, Copy)]
+#[derive(Clone, Copy, Debug, PartialEq, Eq)]
 pub enum Want {
     Back(Slot),
     End,
@@ -20,17 +21,14 @@ pub enum Want {
 }
 
 impl Want {
-    // The slot that is wanted, and 64 where none is.
-    #[tactic(auto, unfolding(crate::specs::Wants::slot_of))]
-    pub fn slot(self) -> Slot
-        ensures { result.0 ≡ slot_of self }
+    // The slot that is wanted, if any.
+    #[tactic(auto, unfolding(crate::specs::Wants::slot_of, crate::specs::Wants::said_slot))]
+    pub fn slot(self) -> Option<Slot>
+        ensures { said_slot result ≡ slot_of self }
     {
         match self {
-            Want::Back(s) => s,
-            Want::End => Slot(SLOTS),
-            Want::Nothing => Slot(SLOTS),
-            Want::Access(s) => s,
-            Want::NoCell => Slot(SLOTS),
+            Want::Back(s) | Want::Access(s) => Some(s),
+            Want::End | Want::Nothing | Want::NoCell => None,
         }
     }
 }
@@ -46,35 +44,35 @@ fn want_cell(c: Cell, owners: &OwnerList) -> Want
     }
 }
 
-fn want_instr(x: Instr, regs: [u32; REGISTERS], owners: &OwnerList) -> Want
-    ensures { result ≡ want_act (listed owners.now) (act_of x regs) }
+// Two arms, not `Reads(_, c) | Writes(c, _)`: there the goal `returns-in-Some-Reads` stayed open, as
+// no fact says which of the two the cell came from.
+fn want_instr(x: Instr, regs: &Registers, owners: &OwnerList) -> Want
+    ensures { result ≡ want_act (listed owners.now) (act_of x regs.now) }
 {
     match x.access(regs) {
-        Access::Nothing => Want::Nothing,
-        Access::Reads(_, c) => want_cell(c, owners),
-        Access::Writes(c, _) => want_cell(c, owners),
+        None => Want::Nothing,
+        Some(Access::Reads(_, c)) => want_cell(c, owners),
+        Some(Access::Writes(c, _)) => want_cell(c, owners),
     }
+}
+
+// The instruction at the seat's position.
+pub fn instr_at(z: &Seat) -> Instr
+    ensures { result ≡ get_or z.now.script.code z.now.run.at no_instr }
+{
+    z.script.code.get(z.run.at).copied().unwrap_or(Instr::NONE)
 }
 
 // By a lent owner list.
 #[tactic(auto, unfolding(crate::specs::Wants::want_of, crate::specs::Wants::act_at))]
-pub fn want_of(z: Seat, owners: &OwnerList) -> Want
-    ensures { result ≡ want_of (listed owners.now) z }
+pub fn want_of(z: &Seat, owners: &OwnerList) -> Want
+    ensures { result ≡ want_of (listed owners.now) z.now }
 {
-    let p = z.pending;
-    if !p.is_empty() {
-        return Want::Back(p.smallest());
-    }
-    let s = z.script;
-    let at = z.run.at;
-    if s.len <= at {
-        return Want::End;
-    }
-    let regs = z.run.regs;
-    if at < MAX_INSTRUCTIONS {
-        let x = s.code[at];
-        want_instr(x, regs, owners)
+    if !z.pending.is_empty() {
+        Want::Back(z.pending.smallest())
+    } else if z.script.len <= z.run.at {
+        Want::End
     } else {
-        want_instr(Instr::NONE, regs, owners)
+        want_instr(instr_at(z), &z.run.regs, owners)
     }
 }

@@ -4,132 +4,109 @@
 
 ghost use Rattle.std.specs.Prelude.{◌≤◌};
 
-use slots::Cell;
+use script::{HEAD_BYTES, INSTR_BYTES, Script, VERSION, read_script, write_script};
+use slots::{Cell, number_in};
 use std::io;
 
 // The bytes of a frame of 65 instructions.
 const LONGEST: usize = 263;
 
-fn owners(rt: &impl Print) -> io::Result<()> {
-    tell::figure(
-        rt,
-        b"owner of cell 1023",
-        slots::owner(Cell(1023)).number() as usize,
-        0,
-    )?;
-    tell::figure(
-        rt,
-        b"owner of cell 1024",
-        slots::owner(Cell(1024)).number() as usize,
-        10,
-    )?;
-    tell::figure(
-        rt,
-        b"owner of cell 4294967295",
-        slots::owner(Cell(4294967295)).number() as usize,
-        10,
-    )
+fn owner(rt: &impl Print, name: &str, cell: u32, expected: u32) -> io::Result<()> {
+    tell::figure(rt, name, number_in(slots::owner(Cell(cell))), expected)
 }
 
-fn read(rt: &impl Print, name: &[u8], frame: &[u8], expected: usize) -> io::Result<()> {
-    tell::figure(
-        rt,
-        name,
-        script::read_script(frame).number as usize,
-        expected,
-    )
+fn owners(rt: &impl Print) -> io::Result<()> {
+    owner(rt, "owner of cell 1023", 1023, 0)?;
+    owner(rt, "owner of cell 1024", 1024, 10)?;
+    owner(rt, "owner of cell 4294967295", 4294967295, 10)
+}
+
+fn read(rt: &impl Print, name: &str, frame: &[u8], expected: u32) -> io::Result<()> {
+    tell::figure(rt, name, number_in(read_script(frame)), expected)
 }
 
 fn frames(rt: &impl Print) -> io::Result<()> {
-    read(rt, b"frame of 2 bytes", b"\x01\x00", 7)?;
-    read(rt, b"frame 010000", b"\x01\x00\x00", 0)?;
-    read(rt, b"frame 020000", b"\x02\x00\x00", 7)?;
-    read(rt, b"frame 010001 with one byte", b"\x01\x00\x01\x01", 7)?;
+    read(rt, "frame of 2 bytes", b"\x01\x00", 7)?;
+    read(rt, "frame 010000", b"\x01\x00\x00", 0)?;
+    read(rt, "frame 020000", b"\x02\x00\x00", 7)?;
+    read(rt, "frame 010001 with one byte", b"\x01\x00\x01\x01", 7)?;
     read(
         rt,
-        b"frame 010004 with three bytes",
+        "frame 010004 with three bytes",
         b"\x01\x00\x04\x01\x00\x00",
         7,
     )?;
     read(
         rt,
-        b"skip to position k",
+        "skip to position k",
         b"\x01\x00\x08\x08\x00\x01\x01\x01\x00\x00\x00",
         0,
     )?;
     read(
         rt,
-        b"skip one further",
+        "skip one further",
         b"\x01\x00\x08\x08\x00\x01\x02\x01\x00\x00\x00",
         9,
     )?;
-    read(rt, b"op 2 of cell 1023", b"\x01\x00\x04\x02\x00\x03\xff", 0)?;
-    read(rt, b"op 2 of cell 1024", b"\x01\x00\x04\x02\x00\x04\x00", 9)?;
-    read(rt, b"register 7", b"\x01\x00\x04\x06\x07\x07\x00", 0)?;
-    read(rt, b"register 8", b"\x01\x00\x04\x06\x07\x08\x00", 9)?;
+    read(rt, "op 2 of cell 1023", b"\x01\x00\x04\x02\x00\x03\xff", 0)?;
+    read(rt, "op 2 of cell 1024", b"\x01\x00\x04\x02\x00\x04\x00", 9)?;
+    read(rt, "register 7", b"\x01\x00\x04\x06\x07\x07\x00", 0)?;
+    read(rt, "register 8", b"\x01\x00\x04\x06\x07\x08\x00", 9)?;
     read(
         rt,
-        b"an unused byte that is not zero",
+        "an unused byte that is not zero",
         b"\x01\x00\x04\x06\x07\x07\x01",
         9,
     )
 }
 
-// A frame of k instructions, each `op 0 0 0`, in front of zeros.
-fn repeated(op: u8, k: usize) -> [u8; LONGEST]
+// The frame of k instructions, each `op 0 0 0`.
+fn read_repeated(rt: &impl Print, name: &str, op: u8, k: usize, expected: u32) -> io::Result<()>
     requires { k ≤ 65 }
 {
-    let mut f = [0u8; LONGEST];
-    f[0] = script::VERSION;
-    f[1] = (script::INSTR_BYTES * k / 256) as u8;
-    f[2] = (script::INSTR_BYTES * k % 256) as u8;
-    let mut i = 0;
-    while i < k {
-        f[script::HEAD_BYTES + script::INSTR_BYTES * i] = op;
-        i += 1;
+    let mut room = [0; LONGEST];
+    let frame = &mut room[..HEAD_BYTES + INSTR_BYTES * k];
+    let [.., high, low] = (INSTR_BYTES * k).to_be_bytes();
+    frame[..HEAD_BYTES].copy_from_slice(&[VERSION, high, low]);
+    for instr in frame[HEAD_BYTES..].chunks_exact_mut(INSTR_BYTES) {
+        instr[0] = op;
     }
-    f
+    read(rt, name, frame, expected)
 }
 
 fn long_frames(rt: &impl Print) -> io::Result<()> {
-    let most = repeated(1, 64);
-    read(rt, b"length 256", &most[0..259], 0)?;
-    let more = repeated(1, 65);
-    read(rt, b"length 260", &more[0..263], 8)?;
-    let none = repeated(0, 65);
-    read(rt, b"length 260, no instruction legal", &none[0..263], 8)?;
-    let last = repeated(0, 64);
-    read(rt, b"length 256, no instruction legal", &last[0..259], 9)
+    read_repeated(rt, "length 256", 1, 64, 0)?;
+    read_repeated(rt, "length 260", 1, 65, 8)?;
+    read_repeated(rt, "length 260, no instruction legal", 0, 65, 8)?;
+    read_repeated(rt, "length 256, no instruction legal", 0, 64, 9)
 }
 
 // The script of two instructions is written to dst, which then holds what is expected.
 fn write(
     rt: &impl Print,
-    name: &[u8],
+    name: &str,
     dst: &mut [u8],
-    number: usize,
+    number: u32,
     expected: &[u8],
 ) -> io::Result<()> {
-    let read = script::read_script(b"\x01\x00\x08\x03\x00\x00\x08\x03\x00\x00\x00");
-    let w = script::write_script(read.script, dst);
-    tell::figure(rt, name, w.number as usize, number)?;
-    tell::part(rt, b"the destination", dst, expected)
+    let frame = b"\x01\x00\x08\x03\x00\x00\x08\x03\x00\x00\x00";
+    let script = read_script(frame).unwrap_or(Script::BLANK);
+    tell::figure(rt, name, number_in(write_script(&script, dst)), number)?;
+    tell::part(rt, "the destination", dst, expected)
 }
 
 fn written(rt: &impl Print) -> io::Result<()> {
-    let mut short = [7u8; 10];
     write(
         rt,
-        b"written to one byte too few",
-        &mut short,
+        "written to one byte too few",
+        &mut [7; 10],
         14,
         b"\x07\x07\x07\x07\x07\x07\x07\x07\x07\x07",
     )?;
-    let mut long = [7u8; 12];
     write(
         rt,
-        b"written to twelve bytes",
-        &mut long,
+        "written to twelve bytes",
+        &mut [7; 12],
         0,
         b"\x01\x00\x08\x03\x00\x00\x08\x03\x00\x00\x00\x07",
     )

@@ -13,12 +13,12 @@ pub fn run(rt: &(impl Input + Print)) -> io::Result<()> {
     let mut input = [0; MOST_INPUT + 1];
     let n = read_full(&mut rt.reader(), &mut input)?;
     let mut listing = [0; MOST_LISTING];
-    let listed = sheet::list_sheet(&input[..n], &mut listing);
-    let len = listed.len;
+    let len = sheet::list_sheet(&input[..n], &mut listing).unwrap();
     rt.write_all(&listing[..len])
 }
 
-// Reads until `buf` is full or the input ends, and returns how many bytes it put at its front.
+// Reads until `buf` is full or the input ends, and returns how many bytes it put at its front. One
+// read may give fewer bytes than there are, and `read_to_end` would need a `Vec`.
 fn read_full<R: Read>(from: &mut R, buf: &mut [u8]) -> io::Result<usize>
     ensures { ReadsAtMost result buf.new }
 {

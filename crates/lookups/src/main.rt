@@ -8,52 +8,52 @@ const WHOLE_ENTRY: usize = 65540;
 
 fn found(
     rt: &impl Print,
-    name: &[u8],
+    name: &str,
     site: &[u8],
     works: &[u8],
     number: u32,
-    expected: usize,
+    expected: u32,
 ) -> io::Result<()> {
     tell::figure(
         rt,
         name,
-        shelf::lookup_refusal(site, works, number) as usize,
+        shelf::lookup_refusal(site, works, number),
         expected,
     )
 }
 
-fn whole_shelves<'a>(rt: &impl Print, site: &'a [u8], works: &'a [u8]) -> io::Result<()> {
+fn whole_shelves(rt: &impl Print, site: &[u8], works: &[u8]) -> io::Result<()> {
     tell::part(
         rt,
-        b"number 2, twice on the site's shelf",
+        "number 2, twice on the site's shelf",
         shelf::lookup(site, works, 2),
         b"\x01\x00\x01\x09",
     )?;
     tell::part(
         rt,
-        b"number 7, on the works shelf",
+        "number 7, on the works shelf",
         shelf::lookup(site, works, 7),
         b"\x01\x00\x02\x05\x06",
     )?;
-    found(rt, b"number 3, on neither", site, works, 3, 13)?;
-    found(rt, b"number 65538, on neither", site, works, 65538, 13)?;
-    found(rt, b"empty shelves", b"", b"", 2, 13)
+    found(rt, "number 3, on neither", site, works, 3, 13)?;
+    found(rt, "number 65538, on neither", site, works, 65538, 13)?;
+    found(rt, "empty shelves", b"", b"", 2, 13)
 }
 
-fn damaged_shelves<'a>(rt: &impl Print, site: &'a [u8], works: &'a [u8]) -> io::Result<()> {
+fn damaged_shelves(rt: &impl Print, site: &[u8], works: &[u8]) -> io::Result<()> {
     let cut = b"\x00\x07\x01\x00\x02\x05";
     found(
         rt,
-        b"number 2, an entry of the works shelf cut short by one byte",
+        "number 2, an entry of the works shelf cut short by one byte",
         site,
         cut,
         2,
         12,
     )?;
-    tell::part(rt, b"its part", shelf::lookup(site, cut, 2), b"")?;
+    tell::part(rt, "its part", shelf::lookup(site, cut, 2), b"")?;
     found(
         rt,
-        b"an entry of the site's shelf cut short by one byte",
+        "an entry of the site's shelf cut short by one byte",
         cut,
         works,
         2,
@@ -61,7 +61,7 @@ fn damaged_shelves<'a>(rt: &impl Print, site: &'a [u8], works: &'a [u8]) -> io::
     )?;
     found(
         rt,
-        b"a version that is not 1",
+        "a version that is not 1",
         site,
         b"\x00\x07\x02\x00\x00",
         2,
@@ -77,18 +77,18 @@ fn shelves(rt: &impl Print) -> io::Result<()> {
 }
 
 fn long_body(rt: &impl Print) -> io::Result<()> {
-    let mut s = [255u8; WHOLE_ENTRY];
+    let mut s = [255; WHOLE_ENTRY];
     s[2] = script::VERSION;
     tell::figure(
         rt,
-        b"bytes of a frame whose body has 65535",
+        "bytes of a frame whose body has 65535",
         shelf::lookup(&s, b"", 65535).len(),
         65538,
     )?;
     found(
         rt,
-        b"the same, cut short by one byte",
-        &s[0..65539],
+        "the same, cut short by one byte",
+        &s[..WHOLE_ENTRY - 1],
         b"",
         65535,
         12,

@@ -18,7 +18,7 @@ use Rattle.seats.specs.SlotTables.{held_by}
 use Rattle.seats.specs.Tables.{seat_at}
 use Rattle.soundness.specs.Tests.{sound_test}
 use Rattle.table.specs.Calls.{is_ended, report_of, result_refusal, result_call, holder_of, view_of, view_refusal, slot_view_call}
-use Rattle.upkeep.proofs.Stands.{Stands}
+use Rattle.upkeep.specs.SoundTables.{Stands}
 use Rattle.promises.specs.Histories.{saucebell, viewed}
 use Rattle.upkeep.proofs.Replies.{stands_test}
 

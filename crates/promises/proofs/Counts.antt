@@ -8,7 +8,7 @@ use Rattle.seats.specs.declared.seat.Phase.{Phase}
 use Rattle.seats.specs.declared.seat.Phase.TheVariants.{Blank}
 use Rattle.seats.specs.declared.seat.Seat.{Seat}
 use Rattle.seats.specs.Tables.{seat_at}
-use Rattle.table.specs.declared.asking.Report.{Report}
+use Rattle.table.specs.Answers.{Report}
 use Rattle.table.specs.Calls.{is_ended, report_of, result_call}
 use Rattle.upkeep.proofs.Stands.{Upkeep}
 use Rattle.promises.specs.Histories.{Call, Notes, saucebell, history}

@@ -21,7 +21,7 @@ use Rattle.seats.specs.declared.slot_table.SlotTable.{SlotTable}
 use Rattle.seats.specs.SlotTables.{held_by, owned}
 use Rattle.course.specs.declared.wants.Want.{Want}
 use Rattle.course.specs.declared.wants.Want.TheVariants.{Back, End, Nothing, Access, NoCell}
-use Rattle.course.specs.declared.cases.Word.TheVariants as word
+use Rattle.course.specs.Words as word
 use Rattle.runs.specs.Runs.{kept_writes, written}
 use Rattle.course.specs.Wants.{act_at, want_of, slot_of}
 use Rattle.course.specs.Cases.{waiting, case_for}

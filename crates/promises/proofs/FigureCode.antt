@@ -23,7 +23,7 @@ use Rattle.seats.proofs.Lines.{head_waits}
 use Rattle.seats.proofs.Hands.{held-released, held-joined}
 use Rattle.course.specs.declared.wants.Want.TheVariants.{Access}
 use Rattle.course.specs.declared.cases.Case.TheVariants as case
-use Rattle.course.specs.declared.cases.Word.TheVariants as word
+use Rattle.course.specs.Words as word
 use Rattle.runs.specs.Runs.{kept_writes, written}
 use Rattle.course.specs.Wants.{act_at, want_of}
 use Rattle.course.specs.Cases.{word_of}

@@ -23,7 +23,7 @@ use Rattle.course.specs.Wants.{want_of, slot_of}
 use Rattle.course.specs.Cases.{case_for}
 use Rattle.rules.specs.Rules.{IsOpen}
 use Rattle.table.specs.Calls.{case_of}
-use Rattle.upkeep.proofs.Stands.{Stands}
+use Rattle.upkeep.specs.SoundTables.{Stands}
 use Rattle.upkeep.proofs.Replies.{phase_open}
 use Rattle.promises.proofs.FigureAlike.{waits}
 use Rattle.upkeep.proofs.Room.{room_left}

@@ -14,7 +14,7 @@ use Rattle.script.specs.Scripts.{word, script_of}
 use Rattle.script.specs.Meaning.{opening_registers, plus, minus, act_of}
 use Rattle.script.specs.Frames.{encode, frame_of, read_script}
 use Rattle.script.specs.Alone.{in_range, next, finish, alone}
-use Rattle.course.specs.declared.cases.Word.TheVariants as words
+use Rattle.course.specs.Words as words
 use Rattle.course.specs.Steps.{ended}
 use Rattle.table.specs.Calls.{opened_seat, result_call}
 use Rattle.upkeep.proofs.Stands.{Upkeep}

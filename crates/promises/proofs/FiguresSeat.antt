@@ -22,13 +22,14 @@ use Rattle.seats.proofs.Hands.{held_free}
 use Rattle.course.specs.declared.wants.Want.TheVariants as want
 use Rattle.course.specs.declared.cases.Case.{Case}
 use Rattle.course.specs.declared.cases.Case.TheVariants as case
-use Rattle.course.specs.declared.cases.Word.TheVariants as word
+use Rattle.course.specs.Words as word
 use Rattle.runs.specs.Runs.{after_act}
 use Rattle.course.specs.Wants.{act_at, want_of}
 use Rattle.course.specs.Cases.{case_for, word_of}
 use Rattle.course.specs.Steps.{goes_on, ended, seat_after}
 use Rattle.table.specs.Calls.{opened_seat, case_of, moved_by, is_ended, report_of, result_call}
-use Rattle.upkeep.proofs.Stands.{Stands, Upkeep}
+use Rattle.upkeep.specs.SoundTables.{Stands}
+use Rattle.upkeep.proofs.Stands.{Upkeep}
 use Rattle.promises.specs.Histories.{World, opening, step, saucebell, begin, opened, step_reply, stepped, called}
 use Rattle.upkeep.proofs.Replies.{StepGranted, step_open, OpenGranted, open_shut}
 use Rattle.promises.proofs.Answers.{reports_ended}

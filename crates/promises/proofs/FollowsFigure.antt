@@ -5,7 +5,8 @@ use mathlib.Core.Path.{◌≡◌, ◌∙◌}
 use mathlib.Core.List.{List, [], ◌∷◌}
 use lib.ListN.{length}
 use Rattle.slots.specs.Sizes.{cells, slots}
-use Rattle.upkeep.proofs.Stands.{Stands, Upkeep}
+use Rattle.upkeep.specs.SoundTables.{Stands}
+use Rattle.upkeep.proofs.Stands.{Upkeep}
 use Rattle.promises.specs.Histories as histories
 use Rattle.promises.specs.Histories.{Call, opening, step, World, saucebell, begin, opened, stepped, history}
 use Rattle.promises.specs.Figure1.{Machine, called, after, idle, figure1, Same, FollowsFigure1}

@@ -29,7 +29,7 @@ use Rattle.seats.proofs.Hands.{queue_free, held_free}
 use Rattle.seats.proofs.Owned.{out_free}
 use Rattle.rules.specs.Rules.{Closed, PhaseRules}
 use Rattle.table.specs.Calls.{opened_seat, open_call}
-use Rattle.upkeep.proofs.Stands.{Stands}
+use Rattle.upkeep.specs.SoundTables.{Stands}
 use Rattle.promises.specs.Figure1.{is_some, Transaction, start, Machine, idle, starting, pending_at}
 use Rattle.upkeep.proofs.Replies.{open_any, open_shut}
 use Rattle.promises.proofs.FigureAlike.{Becomes, Alike, changed}

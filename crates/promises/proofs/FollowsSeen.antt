@@ -26,7 +26,7 @@ use Rattle.seats.proofs.Owned.{held-owned}
 use Rattle.soundness.specs.Tests.{sound_test}
 use Rattle.rules.specs.Rules.{queued_for, concerned}
 use Rattle.table.specs.Calls.{holder_of, line_up, view_of, view_refusal, slot_view_call}
-use Rattle.upkeep.proofs.Stands.{Stands}
+use Rattle.upkeep.specs.SoundTables.{Stands}
 use Rattle.promises.specs.Histories.{saucebell, World}
 use Rattle.promises.specs.Figure1.{is_some, Transaction, Machine, owner_shown, SameSeat, Same}
 use Rattle.upkeep.proofs.Replies.{phase_open, stands_test, step_open}

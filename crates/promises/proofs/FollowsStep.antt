@@ -21,12 +21,12 @@ use Rattle.seats.specs.Queues.{seats}
 use Rattle.seats.specs.SlotTables.{held_by}
 use Rattle.seats.specs.Seats.{is_open}
 use Rattle.seats.specs.Tables.{seat_at}
-use Rattle.course.specs.declared.cases.Word.TheVariants as word
+use Rattle.course.specs.Words as word
 use Rattle.course.specs.Wants.{want_of}
 use Rattle.course.specs.Steps.{seat_after}
 use Rattle.rules.specs.Rules.{IsOpen}
 use Rattle.table.specs.Calls.{case_of, moved_by, image_by, step_call, step_image}
-use Rattle.upkeep.proofs.Stands.{Stands}
+use Rattle.upkeep.specs.SoundTables.{Stands}
 use Rattle.promises.specs.Figure1.{Locks, Line, code, line7, line14, line16, Transaction, transaction, Machine, move, at_line}
 use Rattle.promises.specs.Figure1.{becoming, move_from, move_of, moved}
 use Rattle.upkeep.proofs.Replies.{open_phase, phase_open, StepRefused, step_any, step_open}

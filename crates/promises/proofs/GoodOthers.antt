@@ -29,7 +29,7 @@ use Rattle.runs.specs.Runs.{kept_writes}
 use Rattle.course.specs.Steps.{slots_after, image_after}
 use Rattle.runs.proofs.Kept.{writes_to, unwritten}
 use Rattle.rules.specs.Rules.{IsOpen}
-use Rattle.upkeep.proofs.Stands.{Stands}
+use Rattle.upkeep.specs.SoundTables.{Stands}
 use Rattle.promises.proofs.Good.{SameOn}
 use Rattle.upkeep.proofs.Unqueued.{open_rules}
 

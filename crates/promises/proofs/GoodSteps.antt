@@ -41,7 +41,7 @@ use Rattle.course.proofs.Known.{Known, known, Runs, Accesses, known_want}
 use Rattle.rules.specs.Rules.{IsOpen, Rule2}
 use Rattle.table.specs.Calls.{case_of}
 use Rattle.upkeep.proofs.Unqueued.{open_rules}
-use Rattle.upkeep.proofs.Stands.{Stands}
+use Rattle.upkeep.specs.SoundTables.{Stands}
 use Rattle.promises.proofs.Ahead.{act_on}
 use Rattle.promises.proofs.Good.{Covered, Good, good_start, good_still, good_act, alone-end, alone_out}
 

@@ -20,12 +20,12 @@ use Rattle.seats.specs.declared.table.Table.{Table}
 use Rattle.seats.specs.SlotTables.{held_by}
 use Rattle.seats.specs.Seats.{is_open}
 use Rattle.seats.specs.Tables.{no_seat, seat_at}
-use Rattle.course.specs.declared.cases.Word.{Word}
+use Rattle.course.specs.Words.{Word}
 use Rattle.course.specs.Steps.{seat_after, slots_after, image_after}
 use Rattle.rules.specs.Rules.{IsOpen}
-use Rattle.table.specs.declared.asking.Report.{Report}
+use Rattle.table.specs.Answers.{Report}
 use Rattle.table.specs.Calls.{with_seat, opened_seat, case_of, moved_by, image_by}
-use Rattle.upkeep.proofs.Stands.{Stands}
+use Rattle.upkeep.specs.SoundTables.{Stands}
 use Rattle.promises.specs.Histories.{Notes, notes_of, noting, saucebell, noted}
 use Rattle.upkeep.proofs.Replies.{phase_open}
 use Rattle.promises.proofs.Good.{SameOn, Good, good_start, good_still}

@@ -26,7 +26,8 @@ use Rattle.course.proofs.Known.{known_case}
 use Rattle.rules.specs.Rules.{Waits, IsOpen}
 use Rattle.table.specs.Calls.{case_of}
 use Rattle.upkeep.proofs.Unqueued.{open_rules}
-use Rattle.upkeep.proofs.Stands.{Stands, Upkeep}
+use Rattle.upkeep.specs.SoundTables.{Stands}
+use Rattle.upkeep.proofs.Stands.{Upkeep}
 use Rattle.promises.specs.Histories.{World, saucebell, begin, works, history}
 use Rattle.promises.specs.Demand3.{OpenIn, CanMove, SomeSeatMoves}
 use Rattle.upkeep.proofs.Replies.{open_phase, phase_open, step_open}

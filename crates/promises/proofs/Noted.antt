@@ -19,10 +19,10 @@ use Rattle.seats.specs.declared.seat.Seat.{Seat}
 use Rattle.seats.specs.Queues.{seats}
 use Rattle.seats.specs.Tables.{no_seat}
 use Rattle.course.specs.declared.cases.Case.{Case}
-use Rattle.course.specs.declared.cases.Word.TheVariants as word
+use Rattle.course.specs.Words as word
 use Rattle.course.specs.Cases.{word_of}
 use Rattle.course.specs.Steps.{seat_after}
-use Rattle.table.specs.declared.asking.Report.{Report}
+use Rattle.table.specs.Answers.{Report}
 use Rattle.table.specs.Calls.{is_ended, report_of}
 use Rattle.promises.specs.Histories.{Library, Notes, World, noting, works, restarts, ends, noted}
 use Rattle.promises.specs.Demand3.{Within}

@@ -22,7 +22,8 @@ use Rattle.seats.specs.Tables.{no_seat, seat_at, fresh}
 use Rattle.course.specs.Cases.{word_of}
 use Rattle.course.specs.Steps.{seat_after}
 use Rattle.table.specs.Calls.{is_ended, report_of, opened_seat, case_of, moved_by, result_call}
-use Rattle.upkeep.proofs.Stands.{Stands, Upkeep}
+use Rattle.upkeep.specs.SoundTables.{Stands}
+use Rattle.upkeep.proofs.Stands.{Upkeep}
 use Rattle.promises.specs.Histories.{Call, opening, step, World, Notes, notes_of, saucebell, begin, viewed, noted}
 use Rattle.promises.specs.Histories.{opened, stepped, called, after, history}
 use Rattle.upkeep.proofs.Replies.{StepRefused, StepGranted, step_any, open_any}

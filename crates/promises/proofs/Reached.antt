@@ -4,7 +4,8 @@ use Prim.Native.Nat.{ℕ}
 use mathlib.Core.Path.{◌≡◌, refl, ◌∙◌}
 use mathlib.Core.List.{List, [], ◌∷◌, ◌++◌}
 use lib.ListN.{length}
-use Rattle.upkeep.proofs.Stands.{Stands, Upkeep}
+use Rattle.upkeep.specs.SoundTables.{Stands}
+use Rattle.upkeep.proofs.Stands.{Upkeep}
 use Rattle.promises.specs.Histories.{Call, opening, step, World, saucebell, begin, opened, stepped, called, after, history}
 use Rattle.promises.specs.Demand2.{MadeSound}
 use Rattle.upkeep.proofs.Calls.{step_length, step_stands, open_stands}

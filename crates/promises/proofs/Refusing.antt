@@ -17,7 +17,8 @@ use Rattle.script.specs.Frames.{read_checks, read_refusal, read_script, write_ch
 use Rattle.shelf.specs.Shelves.{lookup_checks, lookup_refusal, frame_found}
 use Rattle.seats.specs.Tables.{seat_at}
 use Rattle.table.specs.Calls.{open_checks, open_refusal, open_call, step_checks, step_refusal, step_call, step_image}
-use Rattle.table.specs.Calls.{no_report, report_of, result_checks, result_refusal, result_call, no_view, view_of, view_checks, view_refusal, slot_view_call}
+use Rattle.table.specs.Answers.{no_report, no_view}
+use Rattle.table.specs.Calls.{report_of, result_checks, result_refusal, result_call, view_of, view_checks, view_refusal, slot_view_call}
 use Rattle.table.specs.Calls.{cell_checks, cell_refusal, cell_read_call}
 use Rattle.promises.specs.Demand1.{Refuses, Demand1}
 use Rattle.promises.proofs.Lowest.{rising, lowest_rising}

@@ -19,7 +19,8 @@ use Rattle.course.specs.Cases.{word_of}
 use Rattle.course.specs.Steps.{seat_after, slots_after}
 use Rattle.rules.specs.Rules.{IsOpen}
 use Rattle.table.specs.Calls.{case_of, moved_by}
-use Rattle.upkeep.proofs.Stands.{Stands, Upkeep}
+use Rattle.upkeep.specs.SoundTables.{Stands}
+use Rattle.upkeep.proofs.Stands.{Upkeep}
 use Rattle.promises.specs.Histories.{step, World, saucebell, works, stepped, called, after}
 use Rattle.promises.specs.Demand3.{Round, steps_of}
 use Rattle.upkeep.proofs.Replies.{step_any, step_open}

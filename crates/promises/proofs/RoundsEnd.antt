@@ -15,7 +15,8 @@ use Rattle.seats.specs.declared.table.Table.{Table}
 use Rattle.seats.specs.Tables.{no_seat}
 use Rattle.rules.specs.Rules.{IsOpen}
 use Rattle.table.specs.Calls.{moved_by}
-use Rattle.upkeep.proofs.Stands.{Stands, Upkeep}
+use Rattle.upkeep.specs.SoundTables.{Stands}
+use Rattle.upkeep.proofs.Stands.{Upkeep}
 use Rattle.promises.specs.Histories.{World, saucebell, begin, stepped, called, after, history}
 use Rattle.promises.specs.Demand3.{Rounds, steps_of, steps_in, most_rounds, AllEnd}
 use Rattle.upkeep.proofs.Replies.{open_phase, step_any}

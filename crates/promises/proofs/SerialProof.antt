@@ -14,7 +14,8 @@ use Rattle.seats.specs.declared.seat.Seat.{Seat}
 use Rattle.seats.specs.Queues.{seats}
 use Rattle.seats.specs.Seats.{is_open, blank_seat}
 use Rattle.seats.specs.Tables.{no_seat, seat_at, fresh}
-use Rattle.upkeep.proofs.Stands.{Stands, Upkeep}
+use Rattle.upkeep.specs.SoundTables.{Stands}
+use Rattle.upkeep.proofs.Stands.{Upkeep}
 use Rattle.promises.specs.Histories.{Call, opening, step, World, saucebell}
 use Rattle.promises.specs.Histories.{ends, begin, opened, stepped, called, after, history}
 use Rattle.promises.specs.Demand2.{in_turn, Agree, Serial}

@@ -23,9 +23,10 @@ use Rattle.course.specs.Steps.{ended, seat_after, image_after}
 use Rattle.course.specs.Wants.{want_of}
 use Rattle.course.proofs.Known.{Known}
 use Rattle.rules.specs.Rules.{IsOpen}
-use Rattle.table.specs.declared.asking.Report.{Report}
+use Rattle.table.specs.Answers.{Report}
 use Rattle.table.specs.Calls.{case_of, moved_by, image_by, is_ended, report_of, result_call}
-use Rattle.upkeep.proofs.Stands.{Stands, Upkeep}
+use Rattle.upkeep.specs.SoundTables.{Stands}
+use Rattle.upkeep.proofs.Stands.{Upkeep}
 use Rattle.promises.specs.Histories.{Notes, Transaction, transaction, saucebell, ends}
 use Rattle.promises.specs.Demand2.{in_turn, reported, Agree}
 use Rattle.promises.proofs.GoodSteps.{case_known, alone_commits, alone_fails}

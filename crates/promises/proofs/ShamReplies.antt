@@ -14,8 +14,8 @@ use Rattle.script.specs.Scripts.{max_instructions, script_of}
 use Rattle.script.specs.Meaning.{act_of}
 use Rattle.seats.specs.Seats.{opened_run}
 use Rattle.seats.specs.Tables.{seat_at}
-use Rattle.course.specs.declared.cases.Word.{Word}
-use Rattle.course.specs.declared.cases.Word.TheVariants as word
+use Rattle.course.specs.Words.{Word}
+use Rattle.course.specs.Words as word
 use Rattle.runs.specs.Runs.{after_act}
 use Rattle.promises.specs.Histories as histories
 use Rattle.promises.specs.Histories.{Library, World, opening, step, step_reply, stepped, history}

@@ -18,7 +18,7 @@ use Rattle.course.specs.Cases.{word_of}
 use Rattle.rules.specs.Rules.{PhaseRules}
 use Rattle.table.specs.Calls.{case_of, moved_by}
 use Rattle.table.proofs.Fitting.{fits}
-use Rattle.upkeep.proofs.Stands.{Stands}
+use Rattle.upkeep.specs.SoundTables.{Stands}
 use Rattle.promises.specs.Histories.{works}
 use Rattle.promises.specs.Demand3.{most_rounds}
 use Rattle.upkeep.proofs.Replies.{stands_test, phase_open}

@@ -5,15 +5,15 @@ use Rattle.std.specs.Prelude.{ℕ, ◌≤◌, ◌<◌, ◌≡◌, ◌⊎◌, tru
 use Rattle.slots.specs.Refusals.{Check}
 use Rattle.slots.specs.Owners.{says, owner_checks, owner_says}
 use Rattle.script.specs.declared.code.Script.{Script}
-use Rattle.script.specs.declared.writing.Written.{Written}
+use Rattle.script.specs.Frames.{Written}
 use Rattle.script.specs.Scripts.{blank_script}
 use Rattle.script.specs.Frames as frames
 use Rattle.script.specs.Frames.{read_as, read_checks, read_script, write_checks, destination}
 use Rattle.shelf.specs.Shelves.{lookup_checks, lookup_refusal, frame_found}
 use Rattle.seats.specs.declared.table.Table.{Table}
-use Rattle.course.specs.declared.cases.Word.TheVariants as word
-use Rattle.table.specs.declared.stepping.Stepped.{Stepped}
-use Rattle.table.specs.Calls.{open_checks, open_call, step_checks, step_call, step_image, no_report, result_checks, result_call, no_view, view_checks, slot_view_call, cell_checks, cell_read_call}
+use Rattle.course.specs.Words as word
+use Rattle.table.specs.Answers.{Stepped, no_report, no_view}
+use Rattle.table.specs.Calls.{open_checks, open_call, step_checks, step_call, step_image, result_checks, result_call, view_checks, slot_view_call, cell_checks, cell_read_call}
 
 -- a check with the number n is in the list, and applies
 unfoldable pub Applies : List Check → ℕ → Type 0

@@ -5,8 +5,8 @@ use Rattle.slots.specs.Sizes.{cells}
 use Rattle.seats.specs.Queues.{seats, is_entry}
 use Rattle.seats.specs.Seats.{most_working, is_open}
 use Rattle.seats.specs.Tables.{seat_at}
-use Rattle.course.specs.declared.cases.Word.TheVariants as word
-use Rattle.table.specs.declared.asking.Report.{Report}
+use Rattle.course.specs.Words as word
+use Rattle.table.specs.Answers.{Report}
 use Rattle.promises.specs.Histories.{Library, Call, step, Notes, World, step_reply, history}
 
 -- ---- of a transaction that has ended

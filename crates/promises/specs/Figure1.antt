@@ -24,11 +24,11 @@ use Rattle.seats.specs.declared.seat.Seat.{Seat}
 use Rattle.seats.specs.Queues.{seats, is_entry}
 use Rattle.seats.specs.Seats.{is_open, opened_run}
 use Rattle.seats.specs.Tables.{seat_at}
-use Rattle.course.specs.declared.cases.Word.{Word}
-use Rattle.course.specs.declared.cases.Word.TheVariants as word
+use Rattle.course.specs.Words.{Word}
+use Rattle.course.specs.Words as word
 use Rattle.runs.specs.Runs.{kept_writes, written, after_act}
 use Rattle.rules.specs.Rules.{concerned}
-use Rattle.table.specs.declared.asking.SlotView.{SlotView}
+use Rattle.table.specs.Answers.{SlotView}
 use Rattle.promises.specs.Histories.{Library, Call, opening, step, World, step_reply, history}
 
 abbrev pub is_some : {A : Type 0} → Option A → Bool

@@ -6,8 +6,8 @@ use Rattle.script.specs.declared.code.Instr.{Instr}
 use Rattle.script.specs.Scripts.{instr}
 use Rattle.script.specs.Frames.{read_script}
 use Rattle.script.specs.Alone.{alone}
-use Rattle.course.specs.declared.cases.Word.{Word}
-use Rattle.course.specs.declared.cases.Word.TheVariants as word
+use Rattle.course.specs.Words.{Word}
+use Rattle.course.specs.Words as word
 use Rattle.promises.specs.Histories.{Call, opening, step, World, saucebell, step_reply, history}
 
 -- a figure as found, and as the description has it

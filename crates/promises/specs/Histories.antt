@@ -8,13 +8,10 @@ use Rattle.script.specs.declared.code.Instr.{Instr}
 use Rattle.script.specs.Frames.{decode, body}
 use Rattle.seats.specs.declared.table.Table.{Table}
 use Rattle.seats.specs.Tables.{fresh}
-use Rattle.course.specs.declared.cases.Word.{Word}
-use Rattle.course.specs.declared.cases.Word.TheVariants as word
-use Rattle.table.specs.declared.opening.Opened.{Opened}
-use Rattle.table.specs.declared.stepping.Stepped.{Stepped}
-use Rattle.table.specs.declared.asking.Report.{Report}
-use Rattle.table.specs.declared.asking.SlotView.{SlotView}
-use Rattle.table.specs.Calls.{open_call, step_call, step_image, no_report, result_call, slot_view_call}
+use Rattle.course.specs.Words.{Word}
+use Rattle.course.specs.Words as word
+use Rattle.table.specs.Answers.{Opened, Stepped, Report, SlotView, no_report}
+use Rattle.table.specs.Calls.{open_call, step_call, step_image, result_call, slot_view_call}
 
 -- ---- the calls that are given a table, as any library of this kind has them
 

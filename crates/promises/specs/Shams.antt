@@ -3,8 +3,8 @@ use Rattle.std.specs.Prelude.{ℕ, ◌<◌, ◌≡◌, List}
 use Rattle.seats.specs.declared.seat.Tally.{Tally}
 use Rattle.seats.specs.declared.table.Table.{Table}
 use Rattle.seats.specs.Tables.{seat_at}
-use Rattle.course.specs.declared.cases.Word.{Word}
-use Rattle.table.specs.declared.asking.Report.{Report}
+use Rattle.course.specs.Words.{Word}
+use Rattle.table.specs.Answers.{Report}
 use Rattle.promises.specs.Histories.{Library, saucebell}
 use Rattle.promises.specs.Figure1.{FollowsFigure1}
 use Rattle.promises.specs.Demand3.{CountsTrue}

@@ -1,110 +1,149 @@
 -- Rule 1 as the code goes about it. The held sets are taken from the last seat to the first, each against the union of those behind it.
 -- The queues are met one after the other, and meeting a list is meeting its entries one by one; a seat is left over after that exactly if
 -- it was there and is no entry, whether or not all went well.
-use Prim.Native.Nat.{ℕ, zero, suc, ◌+◌, ◌-◌, ◌≤◌, ◌<◌}
-use mathlib.Core.Path.{◌≡◌, refl, sym, ap, ◌∙◌}
+use Prim.Native.Nat.{ℕ, zero, suc, ◌+◌, ◌≤◌, ◌<◌}
+use mathlib.Core.Path.{◌≡◌, refl, sym, ap, ◌∙◌, subst}
 use mathlib.Core.Bool.{Bool, true, false, not, cond, ◌&&◌, ◌||◌, and-true, and-false, false≢true}
 use mathlib.Core.List.{List, [], ◌∷◌, ◌++◌}
 use native.Mathlib.Omega.{arith}
 use native.Mathlib.Numerals.{add-one}
 use lib.Dec.{ltb, eqb}
-use lib.ListN.{length, take, drop, get_or, length-take, drop_of_length-le}
-use lib.Seq.{drop-cons, get_or-take}
-use borrow.Author.Tests.{lt-ltb, eqb-true, eq-eqb}
+use lib.ListN.{length, drop, get_or, drop_of_length-le}
+use lib.Seq.{drop-cons}
+use Rattle.std.specs.List.{push}
+use Rattle.std.proofs.Common.{append_assoc, Some, None}
+use Rattle.std.proofs.lemmas.List.{append-nil}
+use borrow.Author.Tests.{lt-ltb, eqb-true, eqb-false, eq-eqb}
 use Rattle.slots.specs.Sizes.{slots}
 use Rattle.slots.specs.declared.set.SlotSet.{SlotSet}
 use Rattle.slots.specs.Sets.{has, none, union, set_of, is_empty}
 use Rattle.slots.proofs.Truth.{split, alike, and_i}
 use Rattle.slots.proofs.Members.{has_set, has-removing}
-use Rattle.seats.specs.declared.queue.Queue.{Queue}
 use Rattle.seats.specs.declared.slot_table.SlotTable.{SlotTable}
 use Rattle.seats.specs.Queues.{seats, entries, is_entry}
-use Rattle.seats.specs.SlotTables.{held_by, queue_of, union_of, owned}
-use Rattle.seats.proofs.Shape.{Whole}
-use Rattle.seats.proofs.Owned.{union_more}
-use Rattle.rule_one.specs.declared.lines.Unmet.{Unmet}
-use Rattle.rule_one.specs.Tests.{common, apart, waiters, all_seats, unmet, met, met_all, lengths_test, queues_test, left_over, is_queued}
+use Rattle.seats.specs.SlotTables.{queue_of, union_of, owned}
+use Rattle.rule_one.specs.Tests.{Unmet, common, apart, waiters, all_seats, unmet, met, met_all, if_fine, lengths_test, queues_test, left_over, is_queued}
 
--- ---- the held sets from one on
+-- ---- the held sets, from the last one on
 
--- the set at j is apart from those behind it
-abbrev alone : List SlotSet → ℕ → Bool
-alone hs j = is_empty (common (get_or hs j none) (union_of (drop (suc j) hs)))
+-- of the held sets, `rest` are not compared yet: `all` is the union of those behind them, and no two of those have a slot in common
+pub record Behind (hs rest : List SlotSet) (all : SlotSet) : Type 0 where
+  pub behind : List SlotSet
+  pub whole : rest ++ behind ≡ hs
+  pub union : all ≡ union_of behind
+  pub apart : apart behind ≡ true
 
-fails_at : (hs : List SlotSet) (j : ℕ) → j < length hs → alone hs j ≡ false → apart hs ≡ false
+pub behind_none : (hs rest : List SlotSet) → rest ≡ hs → Behind hs rest none
+unfolding apart union_of
+behind_none hs rest e = record { behind = []; whole = append-nil rest ∙ e; union = refl; apart = refl }
+
+fails_in : (front hs : List SlotSet) → apart hs ≡ false → apart (front ++ hs) ≡ false
 unfolding apart
-fails_at [] j h e = absurd (omega arith)
-fails_at (x ∷ xs) zero h e = rw e
-fails_at (x ∷ xs) (suc j) h e = rw (fails_at xs j (omega arith) e) (and-false (is_empty (common x (union_of xs))))
+fails_in [] hs e = e
+fails_in (h ∷ front) hs e = rw (fails_in front hs e) (and-false (is_empty (common h (union_of (front ++ hs)))))
 
-cons_apart : (h : SlotSet) (hs : List SlotSet) → is_empty (common h (union_of hs)) ≡ true → apart hs ≡ true → apart (h ∷ hs) ≡ true
-unfolding apart
-cons_apart h hs e k = and_i e k
+-- a turn takes the last of the rest
+module _ (hs rest : List SlotSet) (all : SlotSet) (b : Behind hs rest all) where
+  whole_next : (front : List SlotSet) (h : SlotSet) → rest ≡ push front h → front ++ (h ∷ b.behind) ≡ hs
+  whole_next front h e = sym (append_assoc front (h ∷ []) b.behind) ∙ ap (λ (xs : List SlotSet). xs ++ b.behind) (sym e) ∙ b.whole
 
-pub apart-end : (hs : List SlotSet) (j : ℕ) → length hs ≤ j → apart (drop j hs) ≡ true
-unfolding apart
-apart-end hs j h = ap apart (drop_of_length-le hs {i = j} h)
+  apart_more : (h : SlotSet) → apart (h ∷ b.behind) ≡ is_empty (common h all)
+  unfolding apart
+  apart_more h = rw (b.apart, sym b.union) (and-true (is_empty (common h all)))
 
--- a turn of a loop that counts down from i to i - 1
-module _ (t : SlotTable) (i : ℕ) (w : Whole t) (some : 0 < i) (few : i ≤ seats) where
-  up : suc (i - 1) ≡ i
-  up = omega arith
+  pub behind_next : (front : List SlotSet) (h : SlotSet) → rest ≡ push front h → is_empty (common h all) ≡ true → Behind hs front (union h all)
+  unfolding union_of
+  behind_next front h e k =
+      record { behind = h ∷ b.behind; whole = whole_next front h e; union = ap (union h) b.union; apart = apart_more h ∙ k }
 
-  in_array : i - 1 < length t.held
-  in_array = omega (arith, w.held16)
-
-  here : alone t.held (i - 1) ≡ is_empty (common (held_by t (i - 1)) (union_of (drop i t.held)))
-  here = ap (λ (n : ℕ). is_empty (common (held_by t (i - 1)) (union_of (drop n t.held)))) up
-
-  pub union-next : union (held_by t (i - 1)) (union_of (drop i t.held)) ≡ union_of (drop (i - 1) t.held)
-  union-next = sym (union_more t (i - 1) in_array ∙ ap (λ (n : ℕ). union (held_by t (i - 1)) (union_of (drop n t.held))) up)
-
-  pub apart_next : is_empty (common (held_by t (i - 1)) (union_of (drop i t.held))) ≡ true → apart (drop i t.held) ≡ true
-      → apart (drop (i - 1) t.held) ≡ true
-  apart_next e k =
-      let behind : apart (drop (suc (i - 1)) t.held) ≡ true = ap (λ (n : ℕ). apart (drop n t.held)) up ∙ k in
-      ap apart (drop-cons t.held (i - 1) none in_array) ∙ cons_apart _ _ (here ∙ e) behind
-
-  pub apart_fails : is_empty (common (held_by t (i - 1)) (union_of (drop i t.held))) ≡ false → apart t.held ≡ false
-  apart_fails e = fails_at t.held (i - 1) in_array (here ∙ e)
+  pub behind_fails : (front : List SlotSet) (h : SlotSet) → rest ≡ push front h → is_empty (common h all) ≡ false → apart hs ≡ false
+  behind_fails front h e k = ap apart (sym (whole_next front h e)) ∙ fails_in front (h ∷ b.behind) (apart_more h ∙ k)
 
 -- ---- meeting
 
-pub met_append : (xs ys : List ℕ) (u : Unmet) → met_all (xs ++ ys) u ≡ met_all ys (met_all xs u)
+met_append : (xs ys : List ℕ) (u : Unmet) → met_all (xs ++ ys) u ≡ met_all ys (met_all xs u)
 unfolding met_all
 met_append [] ys u = refl
 met_append (x ∷ xs) ys u = met_append xs ys (met x u)
 
-module _ (q : Queue) (i : ℕ) (u : Unmet) where
-  pub met_next : i < length (entries q) → met_all (drop i (entries q)) u ≡ met_all (drop (i + 1) (entries q)) (met (get_or q.seats i 0) u)
-  unfolding met_all entries
-  met_next h =
-      let l : i < q.len = omega (arith, length-take q.len q.seats) in
-      rw add-one (ap (λ (xs : List ℕ). met_all xs u) (drop-cons (entries q) i 0 h)
-      ∙ ap (λ (x : ℕ). met_all (drop (suc i) (entries q)) (met x u)) (get_or-take q.len q.seats i 0 l))
+-- ---- once a seat was met twice
 
-  pub met-end : length (entries q) ≤ i → met_all (drop i (entries q)) u ≡ u
+not_fine : (x : ℕ) (u : Unmet) → u.fine ≡ false → (met x u).fine ≡ false
+unfolding met
+not_fine x u e = split (has u.seats x) (λ h. rw h e) (λ h. rw h)
+
+stays_bad : (xs : List ℕ) (u : Unmet) → u.fine ≡ false → (met_all xs u).fine ≡ false
+unfolding met_all
+stays_bad [] u e = e
+stays_bad (x ∷ xs) u e = stays_bad xs (met x u) (not_fine x u e)
+
+-- the code's answer says how it went
+module _ (u : Unmet) where
+  none_if : u.fine ≡ false → if_fine u ≡ None
+  unfolding if_fine
+  none_if e = rw e
+
+  bad_if : if_fine u ≡ None → u.fine ≡ false
+  unfolding if_fine
+  bad_if e = split u.fine (λ h. let k = rw h at e in cc) (λ h. h)
+
+  fine_if : (S : SlotSet) → if_fine u ≡ Some S → u ≡ unmet true S
+  unfolding if_fine
+  fine_if S e = split u.fine
+      (λ h. let k = rw h at e in let seats : u.seats ≡ S = cc in λ n. record { fine = h n; seats = seats n })
+      (λ h. let k = rw h at e in cc)
+
+-- ---- a list is met one by one: of the seats not met, the set S is left after the first i entries
+
+module _ (xs : List ℕ) (u : Unmet) (i : ℕ) (S : SlotSet) (e : met_all xs u ≡ met_all (drop i xs) (unmet true S)) where
+  next : i < length xs → met_all xs u ≡ met_all (drop (i + 1) xs) (met (get_or xs i 0) (unmet true S))
   unfolding met_all
-  met-end h = ap (λ (xs : List ℕ). met_all xs u) (drop_of_length-le (entries q) {i = i} h)
+  next h = rw add-one (e ∙ ap (λ (ys : List ℕ). met_all ys (unmet true S)) (drop-cons xs i 0 h))
 
--- a length past the array's end is cut off
-pub entries_full : (q : Queue) → length q.seats ≡ seats → seats ≤ q.len → length (entries q) ≡ seats
-unfolding entries
-entries_full q e l = simp length-take (omega arith)
+  pub meets_more : (R : SlotSet) → i < length xs → if_fine (met (get_or xs i 0) (unmet true S)) ≡ Some R
+      → met_all xs u ≡ met_all (drop (i + 1) xs) (unmet true R)
+  meets_more R h k = next h ∙ ap (met_all (drop (i + 1) xs)) (fine_if _ R k)
 
--- the queues of the first k slots, and one more
-pub waiters-none : (t : SlotTable) (u : Unmet) → met_all (waiters t 0) u ≡ u
-unfolding waiters met_all
-waiters-none t u = refl
+  pub meets_twice : i < length xs → if_fine (met (get_or xs i 0) (unmet true S)) ≡ None → if_fine (met_all xs u) ≡ None
+  meets_twice h k = ap if_fine (next h) ∙ none_if _ (stays_bad (drop (i + 1) xs) _ (bad_if _ k))
 
-module _ (t : SlotTable) (k : ℕ) (u : Unmet) where
-  pub waiters-next : met_all (entries (queue_of t k)) (met_all (waiters t k) u) ≡ met_all (waiters t (k + 1)) u
+  pub meets_all : length xs ≤ i → if_fine (met_all xs u) ≡ Some S
+  unfolding met_all if_fine
+  meets_all h = ap if_fine (e ∙ ap (λ (ys : List ℕ). met_all ys (unmet true S)) (drop_of_length-le xs {i = i} h))
+
+-- ---- the queues of the first k slots, and one more
+
+module _ (t : SlotTable) (u : Unmet) where
+  pub waiters_none : met_all (waiters t 0) u ≡ u
+  unfolding waiters met_all
+  waiters_none = refl
+
+  waiters_next : (k : ℕ) → met_all (waiters t (suc k)) u ≡ met_all (entries (queue_of t k)) (met_all (waiters t k) u)
   unfolding waiters
-  waiters-next = rw add-one (sym (met_append (waiters t k) (entries (queue_of t k)) u))
+  waiters_next k = met_append (waiters t k) (entries (queue_of t k)) u
 
-  pub waiters_skip : (queue_of t k).len ≡ 0 → met_all (waiters t k) u ≡ met_all (waiters t (k + 1)) u
-  unfolding entries met_all
-  waiters_skip e = ap (λ (n : ℕ). met_all (take n (queue_of t k).seats) (met_all (waiters t k) u)) (sym e) ∙ waiters-next
+  waiters_bad : (k n : ℕ) → k ≤ n → (met_all (waiters t k) u).fine ≡ false → (met_all (waiters t n) u).fine ≡ false
+  waiters_bad k zero h e = let q : k ≡ 0 = omega arith in subst (λ (m : ℕ). (met_all (waiters t m) u).fine ≡ false) q e
+  waiters_bad k (suc n) h e =
+      split (eqb k (suc n)) (λ q. subst (λ (m : ℕ). (met_all (waiters t m) u).fine ≡ false) (eqb-true k (suc n) q) e)
+      (λ q. let other : (k ≡ suc n → ⊥) = eqb-false k (suc n) q in
+      let before : (met_all (waiters t n) u).fine ≡ false = waiters_bad k n (omega arith) e in
+      ap (λ (v : Unmet). v.fine) (waiters_next n) ∙ stays_bad (entries (queue_of t n)) _ before)
+
+  -- after the first k queues the seats S are left
+  module _ (k : ℕ) (S : SlotSet) (e : unmet true S ≡ met_all (waiters t k) u) where
+    turn : met_all (entries (queue_of t k)) (unmet true S) ≡ met_all (waiters t (k + 1)) u
+    turn = rw add-one (ap (met_all (entries (queue_of t k))) e ∙ sym (waiters_next k))
+
+    pub waiters_more : (R : SlotSet) → if_fine (met_all (entries (queue_of t k)) (unmet true S)) ≡ Some R → unmet true R ≡ met_all (waiters t (k + 1)) u
+    waiters_more R g = sym (fine_if _ R g) ∙ turn
+
+    pub waiters_twice : (n : ℕ) → k < n → if_fine (met_all (entries (queue_of t k)) (unmet true S)) ≡ None → if_fine (met_all (waiters t n) u) ≡ None
+    waiters_twice n h g = none_if _ (waiters_bad (k + 1) n (omega arith) (ap (λ (v : Unmet). v.fine) (sym turn) ∙ bad_if _ g))
+
+    pub waiters_all : (n : ℕ) → k ≡ n → if_fine (met_all (waiters t n) u) ≡ Some S
+    unfolding if_fine
+    waiters_all n q = ap (λ (m : ℕ). if_fine (met_all (waiters t m) u)) (sym q) ∙ ap if_fine (sym e)
 
 -- ---- who is left over
 

@@ -1,12 +1,11 @@
 -- Rule 1 of 'A sound table' as a test. `Rules` has it in words of membership.
-use Rattle.std.specs.Prelude.{Bool, true, false, cond, ◌&&◌, ◌||◌, List, [], ◌∷◌, ◌++◌, ℕ, zero, suc, ltb, leb, eqb}
+use Rattle.std.specs.Prelude.{Bool, true, false, cond, ◌&&◌, ◌||◌, List, [], ◌∷◌, ◌++◌, ℕ, zero, suc, ltb, leb, eqb, Option, Some, None}
 use Rattle.slots.specs.declared.set.SlotSet.{SlotSet}
 use Rattle.slots.specs.Sizes.{slots}
 use Rattle.slots.specs.Sets.{has, set_of, none, removing, difference, is_empty}
 use Rattle.seats.specs.declared.slot_table.SlotTable.{SlotTable}
 use Rattle.seats.specs.Queues.{seats, entries, is_entry}
 use Rattle.seats.specs.SlotTables.{queue_of, union_of, owned}
-use Rattle.rule_one.specs.declared.lines.Unmet.{Unmet}
 
 -- the test f passes at each number below n
 unfoldable pub all : (ℕ → Bool) → ℕ → Bool
@@ -30,6 +29,11 @@ waiters t (suc n) = waiters t n ++ entries (queue_of t n)
 unfoldable pub all_seats : SlotSet
 all_seats = set_of (λ i. ltb i seats)
 
+-- the seats that have not been met in a queue yet, and whether all went well so far: each seat met was among them
+pub record Unmet : Type 0 where
+  pub fine : Bool
+  pub seats : SlotSet
+
 -- of the seats not met yet, one is met: all is fine if it is among them
 abbrev pub unmet : Bool → SlotSet → Unmet
 unmet fine O = record { fine = fine; seats = O }
@@ -52,6 +56,10 @@ queues_test t = lengths_test t (owned t) && (met_all (waiters t slots) (unmet tr
 -- the seats that nobody met in a queue, where all is fine so far; none are left over otherwise
 unfoldable pub left_over : SlotTable → Unmet
 left_over t = cond (apart t.held && lengths_test t (owned t)) (met_all (waiters t slots) (unmet true all_seats)) (unmet false none)
+
+-- the code's answer: those seats, if all is fine
+unfoldable pub if_fine : Unmet → Option SlotSet
+if_fine u = cond u.fine (Some u.seats) None
 
 unfoldable pub is_queued : SlotTable → ℕ → Bool
 is_queued t i = is_entry i (waiters t slots)

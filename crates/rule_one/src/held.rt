@@ -2,7 +2,7 @@
 ghost use Rattle.std.specs.Prelude.{◌≡◌};
 ghost use Rattle.rule_one.specs.Tests.{common, apart};
 
-use seats::{SEATS, SlotTable};
+use seats::SlotTable;
 use slots::SlotSet;
 
 // What is in both.
@@ -13,15 +13,12 @@ pub fn common(a: SlotSet, b: SlotSet) -> SlotSet
     a.difference(a.difference(b))
 }
 
-pub fn held_apart(t: SlotTable) -> bool
-    ensures { result ≡ apart t.held }
+pub fn held_apart(t: &SlotTable) -> bool
+    ensures { result ≡ apart t.now.held }
 {
     let mut all = SlotSet::EMPTY;
-    let mut i = SEATS;
-    while 0 < i {
-        i -= 1;
-        let h = t.held[i];
-        if !common(h, all).is_empty() {
+    for h in t.held.iter().rev() {
+        if !common(*h, all).is_empty() {
             return false;
         }
         all = h.union(all);

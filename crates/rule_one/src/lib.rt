@@ -6,4 +6,4 @@ mod held;
 mod lines;
 
 pub use held::common;
-pub use lines::{Unmet, slots_sound};
+pub use lines::slots_sound;

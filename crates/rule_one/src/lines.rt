@@ -1,20 +1,12 @@
 // Rule 1: the queues. Nobody waits twice, and a slot with a queue is owned.
-ghost use Rattle.std.specs.Prelude.{◌≡◌, true};
+ghost use Rattle.std.specs.Prelude.{◌≡◌, true, Some};
 ghost use Rattle.slots.specs.Sizes.{slots};
 ghost use Rattle.seats.specs.Queues.{entries};
-ghost use Rattle.rule_one.specs.Tests.{all_seats, waiters, unmet, met, met_all, lengths_test, left_over};
+ghost use Rattle.rule_one.specs.Tests.{all_seats, waiters, unmet, met, met_all, if_fine, lengths_test, left_over};
 
 use crate::held::held_apart;
 use seats::{Queue, SEATS, SlotTable};
 use slots::{SLOTS, Slot, SlotSet};
-
-// The seats that have not been met in a queue yet, and whether all went well so far: each seat met
-// was among them.
-#[derive(Clone, Copy)]
-pub struct Unmet {
-    pub fine: bool,
-    pub seats: SlotSet,
-}
 
 // The sixteen seats, as a set.
 fn all_seats() -> SlotSet
@@ -23,92 +15,54 @@ fn all_seats() -> SlotSet
     SlotSet(65535)
 }
 
-#[tactic(auto, unfolding(crate::specs::Tests::met))]
-fn meet(u: Unmet, seat: u8) -> Unmet
-    ensures { result ≡ met seat u }
+// Of the seats that have not been met in a queue yet, one is met; none if it was met before.
+#[tactic(auto, unfolding(crate::specs::Tests::met, crate::specs::Tests::if_fine))]
+fn meet(left: SlotSet, seat: u8) -> Option<SlotSet>
+    ensures { result ≡ if_fine (met seat (unmet true left)) }
 {
-    let s = Slot(seat as u32);
-    let seats = u.seats;
-    if seats.has(s) {
-        Unmet {
-            fine: u.fine,
-            seats: seats.without(s),
-        }
-    } else {
-        Unmet { fine: false, seats }
+    let s = Slot(u32::from(seat));
+    if !left.has(s) {
+        return None;
     }
+    Some(left.without(s))
 }
 
-fn meet_queue(u: Unmet, q: Queue) -> Unmet
-    ensures { result ≡ met_all (entries q) u }
+fn meet_queue(left: SlotSet, q: &Queue) -> Option<SlotSet>
+    ensures { result ≡ if_fine (met_all (entries q.now) (unmet true left)) }
 {
-    let n = if q.len < SEATS { q.len } else { SEATS };
-    let mut r = u;
-    let mut i = 0;
-    while i < n {
-        r = meet(r, q.seats[i]);
-        i += 1;
+    let mut left = left;
+    for seat in q.entries() {
+        left = meet(left, *seat)?;
     }
-    r
+    Some(left)
 }
 
 // Everyone who waits.
-fn meet_all(t: SlotTable) -> Unmet
-    ensures { result ≡ met_all (waiters t slots) (unmet true all_seats) }
+fn meet_all(t: &SlotTable) -> Option<SlotSet>
+    ensures { result ≡ if_fine (met_all (waiters t.now slots) (unmet true all_seats)) }
 {
-    let mut r = Unmet {
-        fine: true,
-        seats: all_seats(),
-    };
-    let mut k = 0;
-    while k < SLOTS as usize {
-        let q = t.queues[k];
-        if q.len != 0 {
-            r = meet_queue(r, q);
-        }
-        k += 1;
+    let mut left = all_seats();
+    for q in &t.queues {
+        left = meet_queue(left, q)?;
     }
-    r
+    Some(left)
 }
 
 // No queue is longer than there are seats, and a slot with a queue is owned.
-fn lengths_sound(t: SlotTable, owned: SlotSet) -> bool
-    ensures { result ≡ lengths_test t owned }
+fn lengths_sound(t: &SlotTable, owned: SlotSet) -> bool
+    ensures { result ≡ lengths_test t.now owned }
 {
-    let mut s: u32 = 0;
-    while s < SLOTS {
-        let k = s as usize;
-        let n = t.queues[k].len;
-        if SEATS < n {
-            return false;
-        }
-        if n != 0 {
-            if !owned.has(Slot(s)) {
-                return false;
-            }
-        }
-        s += 1;
-    }
-    true
+    (0..SLOTS).zip(&t.queues).all(|(s, q)| q.len <= SEATS && (q.len == 0 || owned.has(Slot(s))))
 }
 
-// Rule 1 whole: whether it holds, and then the seats that wait in no queue.
-#[tactic(auto, unfolding(crate::specs::Tests::left_over))]
-pub fn slots_sound(t: SlotTable) -> Unmet
-    ensures { result ≡ left_over t }
+// Rule 1 whole: where it holds, the seats that wait in no queue.
+#[tactic(auto, unfolding(crate::specs::Tests::left_over, crate::specs::Tests::if_fine))]
+pub fn slots_sound(t: &SlotTable) -> Option<SlotSet>
+    ensures { result ≡ if_fine (left_over t.now) }
 {
-    if !held_apart(t) {
-        return Unmet {
-            fine: false,
-            seats: SlotSet::EMPTY,
-        };
-    }
-    if lengths_sound(t, t.owned()) {
+    if held_apart(t) && lengths_sound(t, t.owned()) {
         meet_all(t)
     } else {
-        Unmet {
-            fine: false,
-            seats: SlotSet::EMPTY,
-        }
+        None
     }
 }

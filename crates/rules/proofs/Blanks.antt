@@ -25,7 +25,7 @@ use Rattle.seats.specs.declared.seat.Seat.{Seat}
 use Rattle.seats.specs.Seats.{no_write, blank_run, no_tally, blank_seat}
 use Rattle.rule_one.specs.Tests.{all}
 use Rattle.rule_six.specs.Tests.{is_no_instr, is_no_write, is_blank_script, no_registers, no_writes, is_blank_run, is_no_tally, blank_test}
-use Rattle.rules.proofs.Every.{three, four, all_at}
+use Rattle.rule_one.proofs.Loops.{three, four, all_at}
 use Rattle.rules.proofs.Shaped.{ShapedSeat}
 
 -- an array of n elements that are all d

@@ -19,7 +19,7 @@ use Rattle.seats.specs.Tables.{seat_at}
 use Rattle.rules.specs.Rules.{Closed, Ended}
 use Rattle.rule_one.specs.Tests.{is_queued}
 use Rattle.rule_six.specs.Tests.{closed_test, ended_test}
-use Rattle.rules.proofs.Every.{three, four}
+use Rattle.rule_one.proofs.Loops.{three, four}
 use Rattle.rules.proofs.Queued.{waits_queued, queued_waits}
 
 module _ (own : ℕ → ℕ) (t : Table) (i : ℕ) where

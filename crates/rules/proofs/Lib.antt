@@ -1,4 +1,3 @@
-pub mod Every
 pub mod Shaped
 pub mod Blanks
 pub mod Both

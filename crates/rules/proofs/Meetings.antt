@@ -9,9 +9,8 @@ use Rattle.slots.specs.Sets.{has, removing}
 use Rattle.slots.proofs.Truth.{is_false, not_both, split}
 use Rattle.slots.proofs.Members.{In, Out, in_not_out, in_removing, removing_here, removing_other}
 use Rattle.seats.specs.Queues.{is_entry}
-use Rattle.rule_one.specs.declared.lines.Unmet.{Unmet}
 use Rattle.rules.specs.Rules.{Distinct}
-use Rattle.rule_one.specs.Tests.{unmet, met, met_all}
+use Rattle.rule_one.specs.Tests.{Unmet, unmet, met, met_all}
 use Rattle.rules.proofs.Entries.{entry_cases, entry_first, entry_later, no_entry}
 
 -- ---- one seat more

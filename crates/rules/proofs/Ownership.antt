@@ -25,7 +25,7 @@ use Rattle.seats.proofs.Shape.{Whole}
 use Rattle.seats.proofs.Owned.{held-owned, owner}
 use Rattle.rules.specs.Rules.{Owns, Waits, IsOpen, Distinct, Rule1, PhaseRules}
 use Rattle.rule_one.specs.Tests.{apart, waiters, all_seats, unmet, met_all, lengths_test, queues_test, is_queued}
-use Rattle.rules.proofs.Every.{all_at, all_of}
+use Rattle.rule_one.proofs.Loops.{all_at, all_of}
 use Rattle.rules.proofs.Shaped.{Shaped}
 use Rattle.rules.proofs.Apart.{apart_sets, sets_apart}
 use Rattle.rules.proofs.Meetings.{met_in, met_once, once_met}

@@ -22,7 +22,7 @@ use Rattle.seats.specs.Tables.{seat_at}
 use Rattle.rules.specs.Rules.{Rule3}
 use Rattle.rule_one.specs.Tests.{all, common}
 use Rattle.soundness.specs.Tests.{at_opening, pending_test}
-use Rattle.rules.proofs.Every.{three, all_at, all_of}
+use Rattle.rule_one.proofs.Loops.{three, all_at, all_of}
 use Rattle.rules.proofs.Both.{in_common, common_in}
 
 module _ (own : ℕ → ℕ) (t : Table) (i : ℕ) where

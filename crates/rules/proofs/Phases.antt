@@ -20,7 +20,7 @@ use Rattle.rule_six.specs.Tests.{closed_test, ended_test}
 use Rattle.soundness.specs.Tests.{place_test, pending_test, wait_test, queued_set, open_test}
 use Rattle.rule_six.specs.Tests.{blank_test}
 use Rattle.soundness.specs.Tests.{phase_test, seat_test}
-use Rattle.rules.proofs.Every.{four}
+use Rattle.rule_one.proofs.Loops.{four}
 use Rattle.rules.proofs.Shaped.{ShapedSeat}
 use Rattle.rules.proofs.Blanks.{blank_is, blank_passes}
 use Rattle.rules.proofs.Places.{place_rule, rule_place}

@@ -18,7 +18,7 @@ use Rattle.seats.specs.SlotTables.{held_by}
 use Rattle.seats.specs.Tables.{seat_at}
 use Rattle.rules.specs.Rules.{cell_of, Rule2}
 use Rattle.soundness.specs.Tests.{cell_held, kept_test, place_test}
-use Rattle.rules.proofs.Every.{four, all_at, all_of}
+use Rattle.rule_one.proofs.Loops.{four, all_at, all_of}
 
 module _ (own : ℕ → ℕ) (ρ : Run) (h : SlotSet) where
   kept_at : kept_test own ρ h ≡ true → (k : ℕ) → k < ρ.kept → (cell_of ρ k < cells) × (has h (own (cell_of ρ k)) ≡ true)

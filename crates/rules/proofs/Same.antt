@@ -11,7 +11,7 @@ use Rattle.seats.specs.Tables.{seat_at}
 use Rattle.rules.specs.Rules.{PhaseRules, Sound}
 use Rattle.rule_one.specs.Tests.{all, apart, queues_test}
 use Rattle.soundness.specs.Tests.{seat_test, sound_test}
-use Rattle.rules.proofs.Every.{three, all_at, all_of}
+use Rattle.rule_one.proofs.Loops.{three, all_at, all_of}
 use Rattle.rules.proofs.Shaped.{Shaped}
 use Rattle.rules.proofs.Queued.{queues_single}
 use Rattle.rules.proofs.Phases.{seat_rules, rules_seat}

@@ -2,7 +2,7 @@
 -- digits. The rules and the test of a table are compared for such tables. A value of a declared type says so of each of its fields, in their
 -- order, and of each element of an array.
 use Prim.Native.Nat.{ℕ, ◌<◌}
-use mathlib.Core.Path.{◌≡◌, ◌∙◌, sym}
+use mathlib.Core.Path.{◌≡◌}
 use mathlib.Core.List.{List}
 use native.Mathlib.Omega.{arith}
 use lib.ListN.{length}
@@ -19,6 +19,7 @@ use Rattle.seats.specs.Queues.{seats}
 use Rattle.seats.specs.SlotTables.{no_queue, queue_of}
 use Rattle.seats.specs.Tables.{no_seat, seat_at}
 use Rattle.seats.proofs.Shape.{Whole, whole, element, queue_16}
+use Rattle.rule_six.proofs.Shape.{code_64, regs_8, writes_64}
 use Rattle.seats.specs.contracts.queue.Queue as queue
 use Rattle.seats.specs.contracts.seat.Seat as seat
 use Rattle.seats.specs.contracts.slot_table.SlotTable as slot_table
@@ -40,11 +41,10 @@ pub record Shaped (t : Table) : Type 0 where
 
 shaped_seat : (z : Seat) (vs : List Val) → Is (row seat.the_type) z vs → ShapedSeat z
 shaped_seat z vs h =
-    let run = h.1.1.1.1.0.1.1 in
     record {
-      code64 = h.1.1.1.0.1.1.0.1.0.1;
-      regs8 = run.1.1.0.1.0.1;
-      writes64 = run.1.1.1.0.1.0.1;
+      code64 = code_64 z vs h;
+      regs8 = regs_8 z vs h;
+      writes64 = writes_64 z vs h;
       pending = omega arith;
     }
 

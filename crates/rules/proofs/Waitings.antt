@@ -24,7 +24,7 @@ use Rattle.course.specs.Wants.{want_of, slot_of}
 use Rattle.rules.specs.Rules.{Owns, Waits, queued_for, Rule4}
 use Rattle.rule_one.specs.Tests.{is_queued}
 use Rattle.soundness.specs.Tests.{wait_test, queued_set}
-use Rattle.rules.proofs.Every.{three}
+use Rattle.rule_one.proofs.Loops.{three}
 use Rattle.rules.proofs.Queued.{waits_queued, queued_waits}
 
 -- a slot that someone waits for is one

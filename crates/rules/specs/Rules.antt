@@ -11,7 +11,6 @@ use Rattle.script.specs.Meaning.{opening_registers}
 use Rattle.seats.specs.declared.seat.Phase.{Phase}
 use Rattle.seats.specs.declared.seat.Phase.TheVariants.{Blank, Open, Committed, Failed}
 use Rattle.seats.specs.declared.seat.Run.{Run}
-use Rattle.seats.specs.declared.seat.Seat.{Seat}
 use Rattle.seats.specs.declared.table.Table.{Table}
 use Rattle.seats.specs.Queues.{seats, entries, waits_in, is_entry}
 use Rattle.seats.specs.SlotTables.{held_by, queue_of}

@@ -84,11 +84,6 @@ module _ (ws : List Write) (k : ℕ) (h : k < length ws) where
   take_more : take (k + 1) ws ≡ take k ws ++ (get_or ws k no_write ∷ [])
   take_more = rw add-one (take-suc ws k no_write h)
 
-  pub value_more : (c v : ℕ)
-      → value_after (take (k + 1) ws) c v ≡ cond (eqb (get_or ws k no_write).cell.0 c) (get_or ws k no_write).value (value_after (take k ws) c v)
-  unfolding value_after
-  value_more c v = ap (λ (us : List Write). value_after us c v) take_more ∙ value_append (take k ws) (get_or ws k no_write ∷ []) c v
-
   pub written_more : (img : List ℕ)
       → written (take (k + 1) ws) img ≡ set (written (take k ws) img) (get_or ws k no_write).cell.0 (get_or ws k no_write).value
   unfolding written

@@ -1,48 +1,13 @@
--- What an instruction's act is, op by op. The act goes down the table of ops to the op's own line, so with the op known it computes, and
--- what holds on each line holds of the act (`by_op`): whoever knows only which ops it is not takes the other lines.
-use Rattle.std.proofs.Common.{◌≡◌, ℕ, ◌+◌, ◌-◌, ◌%◌, ◌^◌, ◌<◌, cond, List, set, sym, refl, ap, ◌∙◌, mod-eq_of_lt, arith, eqb-true}
-use native.Mathlib.Nat.{add-mod_right}
-use native.Mathlib.Decide.{dec_lt}
+-- What an instruction's act is, op by op. The act goes down the table of ops to the op's own line, so what holds on each line holds of the
+-- act (`by_op`).
+use Rattle.std.proofs.Common.{◌≡◌, ℕ, cond, List, set, eqb-true}
 use Rattle.slots.proofs.Truth.{split}
 use Rattle.script.specs.Legal.{is_op}
 use Rattle.script.specs.declared.code.Instr.{Instr}
 use Rattle.script.specs.Scripts.{k16}
-use Rattle.script.specs.declared.act.Access.TheVariants.{Nothing}
-use Rattle.script.specs.Meaning.{Act, local, reads, writes, register, plus, minus, is_less, act_of, access_of, moved, local_of}
+use Rattle.script.specs.Meaning.{Act, local, reads, writes, register, plus, minus, is_less, act_of}
 
 module _ (x : Instr) (r : List ℕ) where
-  pub op_1 : x.op ≡ 1 → act_of x r ≡ local (set r x.a (k16 x)) 0
-  unfolding act_of
-  op_1 e = rw e
-
-  pub op_2 : x.op ≡ 2 → act_of x r ≡ reads x.a (k16 x)
-  unfolding act_of
-  op_2 e = rw e
-
-  pub op_3 : x.op ≡ 3 → act_of x r ≡ writes (k16 x) (register r x.a)
-  unfolding act_of
-  op_3 e = rw e
-
-  pub op_4 : x.op ≡ 4 → act_of x r ≡ reads x.a (register r x.b)
-  unfolding act_of
-  op_4 e = rw e
-
-  pub op_5 : x.op ≡ 5 → act_of x r ≡ writes (register r x.b) (register r x.a)
-  unfolding act_of
-  op_5 e = rw e
-
-  pub op_6 : x.op ≡ 6 → act_of x r ≡ local (set r x.a (plus (register r x.a) (register r x.b))) 0
-  unfolding act_of
-  op_6 e = rw e
-
-  pub op_7 : x.op ≡ 7 → act_of x r ≡ local (set r x.a (minus (register r x.a) (register r x.b))) 0
-  unfolding act_of
-  op_7 e = rw e
-
-  pub op_8 : x.op ≡ 8 → act_of x r ≡ local r (cond (is_less (register r x.a) (register r x.b)) x.c 0)
-  unfolding act_of
-  op_8 e = rw e
-
   -- what holds on each line of the table holds of the act
   pub by_op : (P : Act → Type 0)
       → (x.op ≡ 1 → P (local (set r x.a (k16 x)) 0))
@@ -66,32 +31,3 @@ module _ (x : Instr) (r : List ℕ) where
       (split (is_op x 7) (λ e. rw e (h7 (eqb-true x.op 7 e))) (λ e. rw e
       (split (is_op x 8) (λ e. rw e (h8 (eqb-true x.op 8 e))) (λ e. rw e
       h0)))))))))))))))
-
-  pub no_access : (x.op ≡ 2 → ⊥) → (x.op ≡ 3 → ⊥) → (x.op ≡ 4 → ⊥) → (x.op ≡ 5 → ⊥) → access_of (act_of x r) ≡ Nothing
-  unfolding access_of
-  no_access n2 n3 n4 n5 =
-      by_op (λ a. access_of a ≡ Nothing) (λ e. refl) (λ e. absurd (n2 e)) (λ e. absurd (n3 e)) (λ e. absurd (n4 e)) (λ e. absurd (n5 e))
-      (λ e. refl) (λ e. refl) (λ e. refl) refl
-
-  pub not_local : (x.op ≡ 1 → ⊥) → (x.op ≡ 6 → ⊥) → (x.op ≡ 7 → ⊥) → (x.op ≡ 8 → ⊥) → local_of r (act_of x r) ≡ moved r 0
-  unfolding local_of
-  not_local n1 n6 n7 n8 =
-      by_op (λ a. local_of r a ≡ moved r 0) (λ e. absurd (n1 e)) (λ e. refl) (λ e. refl) (λ e. refl) (λ e. refl)
-      (λ e. absurd (n6 e)) (λ e. absurd (n7 e)) (λ e. absurd (n8 e)) refl
-
--- the number that b added to wraps back to a
-pub difference_is : (a b d : ℕ) → b < 2 ^ 32 → d < 2 ^ 32 → (d + b) % 2 ^ 32 ≡ a → d ≡ minus a b
-unfolding minus
-difference_is a b d hb hd e = go (dec_lt (d + b) (2 ^ 32))
-  where
-    go : Dec (d + b < 2 ^ 32) → d ≡ (a + (2 ^ 32 - b)) % 2 ^ 32
-    go (yes h) =
-        let s : d + b ≡ a = sym (mod-eq_of_lt h) ∙ e in
-        let k : a + (2 ^ 32 - b) ≡ d + 2 ^ 32 = omega arith in
-        sym (ap (λ (n : ℕ). n % 2 ^ 32) k ∙ add-mod_right d (2 ^ 32) ∙ mod-eq_of_lt hd)
-    go (no h) =
-        let u : d + b ≡ (d + b - 2 ^ 32) + 2 ^ 32 = omega arith in
-        let s : d + b - 2 ^ 32 ≡ a =
-        sym (ap (λ (n : ℕ). n % 2 ^ 32) u ∙ add-mod_right (d + b - 2 ^ 32) (2 ^ 32) ∙ mod-eq_of_lt (omega arith)) ∙ e in
-        let k : a + (2 ^ 32 - b) ≡ d = omega arith in
-        sym (ap (λ (n : ℕ). n % 2 ^ 32) k ∙ mod-eq_of_lt hd)

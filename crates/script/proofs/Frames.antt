@@ -1,10 +1,10 @@
--- The layout of frames. An instruction is four bytes, so the i-th of a body stands 4 * i bytes on, and a frame's body three bytes further:
--- each law on bodies goes by the body, four bytes at a time. What a loop has made after i turns is what it is to make up to there, and
+-- The layout of frames. An instruction is four bytes, so the i-th of a body stands 4 * i bytes on: each law on bodies goes by the body, four
+-- bytes at a time. What a loop has made after i turns is what it is to make up to there, and
 -- behind that what was there before; one turn moves the seam by one instruction.
-use Rattle.std.proofs.Common.{◌≡◌, ℕ, zero, suc, ◌+◌, ◌-◌, ◌*◌, ◌/◌, ◌%◌, ◌<◌, ◌≤◌, List, [], ◌∷◌, ◌++◌, length, get_or, take, drop, set, replicate, sym, refl, ap, ◌∙◌, append_assoc, append-nil, le_of_suc-le-suc, not-suc-le-zero, add-one, arith, length-append, length-drop, length-set, take-append-drop, length-take-le, get_or-drop, take-suc, drop-drop, take_at}
+use Rattle.std.proofs.Common.{◌≡◌, ℕ, zero, suc, ◌+◌, ◌-◌, ◌*◌, ◌/◌, ◌%◌, ◌<◌, ◌≤◌, List, [], ◌∷◌, ◌++◌, length, get_or, take, drop, set, replicate, sym, refl, ap, ◌∙◌, append_assoc, le_of_suc-le-suc, not-suc-le-zero, add-one, arith, length-append, length-drop, length-take-le, get_or-drop, take-suc, drop-drop, take_at, drop_at, ap₂}
+use borrow.Rule.Slice.PartMut.{put_mid}
 use native.Mathlib.Nat.{sub-zero, zero-sub, suc-sub-suc}
-use native.Mathlib.Numerals.{add-two, add-three}
-use lib.Seq.{take-length, drop-append-add, sets-eq}
+use lib.Seq.{take-length}
 use Rattle.script.specs.declared.code.Instr.{Instr}
 use Rattle.script.specs.declared.code.Script.{Script}
 use Rattle.script.specs.Scripts.{max_instructions, instr_bytes, head_bytes, no_instr, script_of}
@@ -72,17 +72,14 @@ pub body_frame : (xs : List Instr) → decode (body (frame_of xs)) ≡ xs
 unfolding frame_of
 body_frame xs = decode-encode xs
 
--- how many instructions a frame has, and the i-th of them
+-- how many instructions a frame has
 pub body_length : (f : List ℕ) → length (decode (body f)) ≡ (length f - head_bytes) / instr_bytes
 body_length f = length_decode (body f) ∙ ap (λ (n : ℕ). n / instr_bytes) (length-drop head_bytes f)
 
-pub body_at : (f : List ℕ) (i : ℕ) → frame_bytes i + instr_bytes ≤ length f → get_or (decode (body f)) i no_instr ≡ instr_at f (frame_bytes i)
-body_at f i h = decode_at (body f) i (omega (arith, length-drop head_bytes f)) ∙ instr_further head_bytes f (instr_bytes * i)
-
--- ---- the reader's loop: the first i instructions of the frame f, and behind them none
+-- ---- the reader's loop: the first i instructions of the body b, and behind them none
 
 abbrev pub held : List ℕ → ℕ → List Instr
-held f i = take i (decode (body f)) ++ drop i (replicate max_instructions no_instr)
+held b i = take i (decode b) ++ drop i (replicate max_instructions no_instr)
 
 store_next : (xs ys : List Instr) (i : ℕ) → i < length xs → i < length ys
     → set (take i xs ++ drop i ys) i (get_or xs i no_instr) ≡ take (suc i) xs ++ drop (suc i) ys
@@ -96,73 +93,74 @@ drop_replicate zero m x = rw (sub-zero m)
 drop_replicate (suc n) zero x = rw (zero-sub (suc n))
 drop_replicate (suc n) (suc m) x = rw (suc-sub-suc m n) (drop_replicate n m x)
 
-module _ (f : List ℕ) where
-  pub held_more : (i : ℕ) {code : List Instr} {x : Instr} → code ≡ held f i → x ≡ instr_at f (frame_bytes i)
-      → i < max_instructions → frame_bytes i + instr_bytes ≤ length f → set code i x ≡ held f (i + 1)
-  held_more i e q h k =
-      rw (e, q ∙ sym (body_at f i k), add-one i)
-      (store_next (decode (body f)) (replicate max_instructions no_instr) i (omega (arith, body_length f)) h)
+-- the four bytes of an instruction alone are as good as those bytes with others behind
+four_alone : (w r : List ℕ) → length w ≡ instr_bytes → instr_at w 0 ≡ instr_at (w ++ r) 0
+unfolding instr_at
+four_alone [] r n = absurd (omega arith)
+four_alone (op ∷ []) r n = absurd (omega arith)
+four_alone (op ∷ a ∷ []) r n = absurd (omega arith)
+four_alone (op ∷ a ∷ b ∷ []) r n = absurd (omega arith)
+four_alone (op ∷ a ∷ b ∷ c ∷ rest) r n = refl
 
-  pub held_all : (k : ℕ) {code : List Instr} → code ≡ held f k → frame_bytes k ≡ length f
-      → ◌≡◌ {A = Script} (record { code = code; len = k }) (script_of (decode (body f)))
+module _ (b : List ℕ) where
+  -- a turn: i instructions have come, four bytes w come, and r is left
+  module _ (i : ℕ) (w r : List ℕ) (e : drop (instr_bytes * i) b ≡ w ++ r) (n : length w ≡ instr_bytes) where
+    pub four_fit : instr_bytes * i + instr_bytes ≤ length b
+    four_fit = omega (arith, sym (length-drop (instr_bytes * i) b) ∙ ap length e ∙ length-append w r)
+
+    pub left_next : r ≡ drop (instr_bytes * (i + 1)) b
+    left_next =
+        let m : instr_bytes * i + instr_bytes ≡ instr_bytes * (i + 1) = omega arith in
+        sym (drop_at w r instr_bytes n) ∙ ap (drop instr_bytes) (sym e) ∙ drop-drop instr_bytes (instr_bytes * i) b ∙ ap (λ (j : ℕ). drop j b) m
+
+    come : instr_at w 0 ≡ get_or (decode b) i no_instr
+    come =
+        let m : instr_bytes * i + 0 ≡ instr_bytes * i = omega arith in
+        four_alone w r n ∙ ap (λ (l : List ℕ). instr_at l 0) (sym e) ∙ instr_further (instr_bytes * i) b 0 ∙ ap (instr_at b) m ∙ sym (decode_at b i four_fit)
+
+    pub held_more : {code : List Instr} {x : Instr} → code ≡ held b i → x ≡ instr_at w 0 → i < max_instructions → set code i x ≡ held b (i + 1)
+    held_more q p h =
+        rw (q, p ∙ come, add-one i)
+        (store_next (decode b) (replicate max_instructions no_instr) i (omega (arith, length_decode b, four_fit)) h)
+
+  pub held_all : (s : Script) (k : ℕ) → s.code ≡ held b k → s.len ≡ k → length b ≡ instr_bytes * k → s ≡ script_of (decode b)
   unfolding script_of
-  held_all k e l =
-      let n : k ≡ length (decode (body f)) = omega (arith, body_length f) in
-      rw (e, n, take-length (decode (body f)), drop_replicate)
+  held_all s k e m l =
+      let n : k ≡ length (decode b) = omega (arith, length_decode b) in
+      let made : List Instr → ℕ → Script = λ c j. record { code = c; len = j } in
+      ap₂ made e m ∙ rw (n, take-length (decode b), drop_replicate)
 
--- ---- the writer's loop: the first three bytes of d, the first i instructions, and what is left of d
-
-pub put_four : (d : List ℕ) (i : ℕ) (x : Instr) → i + instr_bytes ≤ length d
-    → set (set (set (set d i x.op) (i + 1) x.a) (i + 2) x.b) (i + 3) x.c ≡ take i d ++ (bytes_of x ++ drop (i + instr_bytes) d)
-put_four d i x h =
-    rw (add-one i, add-two i, add-three i) (sets-eq (bytes_of x) d i h ∙ append_assoc (take i d) (bytes_of x) (drop (i + instr_bytes) d))
-
--- bytes put behind a prefix of n bytes make it longer
-put_next : (p bs d : List ℕ) (n : ℕ) → length p ≡ n
-    → take n (p ++ drop n d) ++ (bs ++ drop (n + length bs) (p ++ drop n d)) ≡ (p ++ bs) ++ drop (n + length bs) d
-put_next p bs d n e =
-    let rest : drop (n + length bs) (p ++ drop n d) ≡ drop (n + length bs) d =
-    rw (sym e) (drop-append-add p (drop (length p) d) (length bs) ∙ drop-drop (length bs) (length p) d) in
-    rw (take_at p (drop n d) n e, rest, append_assoc)
-
-abbrev front : List ℕ → List Instr → ℕ → List ℕ
-front d xs i = take head_bytes d ++ encode (take i xs)
+-- ---- the writer's loop: the first i instructions, and behind them what is left of the destination d
 
 abbrev pub filled : List ℕ → List Instr → ℕ → List ℕ
-filled d xs i = front d xs i ++ drop (frame_bytes i) d
+filled d xs i = encode (take i xs) ++ drop (instr_bytes * i) d
 
 pub filled_none : (d : List ℕ) (xs : List Instr) → d ≡ filled d xs 0
 unfolding encode
-filled_none d xs = sym (ap (λ (p : List ℕ). p ++ drop head_bytes d) (append-nil (take head_bytes d)) ∙ take-append-drop head_bytes d)
+filled_none d xs = refl
 
-module _ (d : List ℕ) (xs : List Instr) (room : frame_bytes (length xs) ≤ length d) (i : ℕ) where
-  front_length : i ≤ length xs → length (front d xs i) ≡ frame_bytes i
-  front_length h = simp (length-append, length_encode, length-take-le head_bytes d (omega arith), length-take-le i xs h)
+-- w is put in behind p, over what stands there of d
+put_behind : (p w d : List ℕ) (n k : ℕ) → length p ≡ n → put_mid n k (p ++ drop n d) w ≡ (p ++ w) ++ drop (n + k) d
+put_behind p w d n k e =
+    rw (take_at p (drop n d) n e, drop_at p (drop n d) n e, drop-drop k n d) (sym (append_assoc p w (drop (n + k) d)))
 
-  -- an instruction more, put into d₁, makes d₂
-  pub filled_more : {d₁ d₂ : List ℕ} {x : Instr} → i < length xs → get_or xs i no_instr ≡ x → d₁ ≡ filled d xs i
-      → d₂ ≡ take (frame_bytes i) d₁ ++ (bytes_of x ++ drop (frame_bytes i + instr_bytes) d₁) → d₂ ≡ filled d xs (i + 1)
+module _ (d : List ℕ) (xs : List Instr) where
+  -- an instruction more
+  pub filled_more : (i : ℕ) {k : ℕ} {old w : List ℕ} {x : Instr} → i < length xs → get_or xs i no_instr ≡ x → old ≡ filled d xs i
+      → k ≡ instr_bytes → w ≡ bytes_of x → put_mid (instr_bytes * i) k old w ≡ filled d xs (i + 1)
   unfolding encode
-  filled_more {x = x} h is e₁ e₂ =
-      let longer : front d xs i ++ bytes_of x ≡ front d xs (i + 1) = rw (append_assoc, add-one i, take-suc xs i no_instr, is, encode_append) in
-      let e : frame_bytes i + instr_bytes ≡ frame_bytes (i + 1) = omega arith in
-      rw e₁ at e₂ ∙ put_next (front d xs i) (bytes_of x) d (frame_bytes i) (front_length (omega arith)) ∙ rw (longer, e)
+  filled_more i {x = x} h is e four q =
+      let many : length (encode (take i xs)) ≡ instr_bytes * i =
+      length_encode (take i xs) ∙ ap (λ (n : ℕ). instr_bytes * n) (length-take-le i xs (omega arith)) in
+      let longer : encode (take i xs) ++ bytes_of x ≡ encode (take (i + 1) xs) = rw (add-one i, take-suc xs i no_instr h, is, encode_append) in
+      let m : instr_bytes * i + instr_bytes ≡ instr_bytes * (i + 1) = omega arith in
+      rw (e, four, q) (put_behind (encode (take i xs)) (bytes_of x) d (instr_bytes * i) instr_bytes many ∙ rw (longer, m))
 
--- d with the head of a frame of k instructions
-abbrev pub headed : List ℕ → ℕ → List ℕ
-headed d k = set (set (set d 0 version) 1 (instr_bytes * k / 256)) 2 (instr_bytes * k % 256)
-
-pub headed_length : (d : List ℕ) (k : ℕ) → length (headed d k) ≡ length d
-headed_length d k = simp length-set
-
-pub filled-all : (d : List ℕ) (xs : List Instr) (k : ℕ) → length xs ≡ k → head_bytes ≤ length d
-    → filled (headed d k) xs k ≡ frame_of xs ++ drop (frame_bytes k) d
-unfolding frame_of
-filled-all [] xs k e h = absurd (omega arith)
-filled-all (a ∷ []) xs k e h = absurd (omega arith)
-filled-all (a ∷ b ∷ []) xs k e h = absurd (omega arith)
-filled-all (a ∷ b ∷ c ∷ rest) xs k e h =
-    let n : ℕ = instr_bytes * k in
-    let behind : drop (head_bytes + n) (version ∷ (n / 256) ∷ (n % 256) ∷ rest) ≡ drop (head_bytes + n) (a ∷ b ∷ c ∷ rest) =
-    sym (drop-drop n head_bytes (version ∷ (n / 256) ∷ (n % 256) ∷ rest)) ∙ drop-drop n head_bytes (a ∷ b ∷ c ∷ rest) in
-    rw (behind, sym e, take-length xs)
+  -- the head and the body, at the front of d
+  pub framed_front : {k n : ℕ} {head w : List ℕ} → length xs ≡ k → k ≤ max_instructions → n ≡ instr_bytes * length xs
+      → head ≡ version ∷ (instr_bytes * length xs / 256 % 256) ∷ (instr_bytes * length xs % 256) ∷ [] → w ≡ encode xs
+      → put_mid head_bytes n (head ++ drop head_bytes d) w ≡ frame_of xs ++ drop (frame_bytes k) d
+  unfolding frame_of
+  framed_front e l m h q =
+      let high : instr_bytes * length xs / 256 % 256 ≡ instr_bytes * length xs / 256 = omega arith in
+      rw (sym e, h, q, m, high, drop-drop (instr_bytes * length xs) head_bytes d)

@@ -5,10 +5,9 @@ use Rattle.std.proofs.Common.{◌≡◌, ℕ, ◌+◌, ◌-◌, ◌*◌, ◌/◌
 use Rattle.slots.specs.Refusals.{refusal}
 use Rattle.script.specs.declared.code.Instr.{Instr}
 use Rattle.script.specs.declared.code.Script.{Script}
-use Rattle.script.specs.declared.reading.ReadScript.{ReadScript}
 use Rattle.script.specs.Scripts.{max_instructions, head_bytes, instr_bytes, word, instrs, script_of}
 use Rattle.script.specs.Legal.{legal, script_checks}
-use Rattle.script.specs.Frames.{frame_bytes, frame_of, is_frame, decode, body, read_refusal, read_as, read_script, destination}
+use Rattle.script.specs.Frames.{ReadScript, frame_bytes, frame_of, is_frame, decode, body, read_refusal, read_as, read_script, destination}
 use Rattle.script.specs.RoundTrips.{Bytes, Whole, ReadThenWritten, WrittenThenRead, OneFrame}
 use Rattle.slots.proofs.Checks.{none}
 use Rattle.script.proofs.Lawful.{code_free}

@@ -1,19 +1,22 @@
 -- The script writer, by the ways through its code. The number of the script itself comes first, whatever room there is, and only a script
 -- without one is held against the room. Where a number is given the destination stays, and otherwise it has the frame at its front.
-use Rattle.std.proofs.Common.{◌≡◌, ℕ, ◌<◌, ◌≤◌, true, ltb, List, [], ◌∷◌, ◌++◌, length, drop, sym, ◌∙◌, le-ltb, lt-ltb, ne_eqb}
-use Rattle.slots.specs.Refusals.{◌when◌, refusal}
+use Rattle.std.proofs.Common.{◌≡◌, ℕ, ◌<◌, ◌≤◌, true, ltb, List, [], ◌∷◌, ◌++◌, length, drop, sym, ap, ◌∙◌, le-ltb, lt-ltb, ne_eqb}
+use Rattle.std.specs.Prelude.{Result, Ok, Err}
+use Rattle.slots.specs.declared.refusals.Refusal.{Refusal}
+use Rattle.slots.specs.Refusals.{◌when◌, refusal, number_of, number_in, value_in}
+use Rattle.slots.proofs.Answers.{no_number, one_answer}
 use Rattle.script.specs.declared.code.Script.{Script}
-use Rattle.script.specs.declared.writing.Written.{Written}
 use Rattle.script.specs.Scripts.{max_instructions, instrs}
 use Rattle.script.specs.Legal.{legal, script_checks}
-use Rattle.script.specs.Frames.{frame_bytes, frame_of, write_refusal, written, destination}
+use Rattle.script.specs.Frames.{Written, frame_bytes, frame_of, write_refusal, said_written, written, destination}
 use Rattle.slots.proofs.Checks.{none, applies, passed, given, none_first}
 use Rattle.script.proofs.Lawful.{code_free, code_ok}
 
-abbrev pub wrote : ℕ → ℕ → Written
-wrote n l = record { number = n; len = l }
-
 module _ (s : Script) where
+  -- a script without a number has at most 64 instructions
+  pub few : 0 ≡ refusal (script_checks s) → s.len ≤ max_instructions
+  few free = (code_ok s.len (instrs s) (sym free)).0
+
   module _ (room : ℕ) where
     pub write_first : {n : ℕ} → n ≡ refusal (script_checks s) → (n ≡ 0 → ⊥) → write_refusal s room ≡ n
     unfolding write_refusal
@@ -35,11 +38,17 @@ module _ (s : Script) where
     write_ok e = code_ok s.len (instrs s) (none_first (script_checks s) _ e)
 
   module _ (d : List ℕ) where
-    pub write_refused : {n : ℕ} → write_refusal s (length d) ≡ n → (n ≡ 0 → ⊥) → (wrote n 0 ≡ written s (length d)) × (d ≡ destination s d)
-    unfolding written destination
-    write_refused {n} e h = (rw (e, ne_eqb n 0 h), rw (e, ne_eqb n 0 h))
+    pub write_no : (r : Refusal) → write_refusal s (length d) ≡ number_of r
+        → (said_written (Err r) ≡ written s (length d)) × (d ≡ destination s d)
+    unfolding said_written written destination number_in value_in
+    write_no r e = (rw (e, ne_eqb (number_of r) 0 (no_number r)), rw (e, ne_eqb (number_of r) 0 (no_number r)))
 
     pub write_script : write_refusal s (length d) ≡ 0
-        → (wrote 0 (frame_bytes s.len) ≡ written s (length d)) × (frame_of (instrs s) ++ drop (frame_bytes s.len) d ≡ destination s d)
-    unfolding written destination
+        → (said_written (Ok (frame_bytes s.len)) ≡ written s (length d)) × (frame_of (instrs s) ++ drop (frame_bytes s.len) d ≡ destination s d)
+    unfolding said_written written destination number_in value_in
     write_script e = (rw e, rw e)
+
+-- what is said tells the answer
+pub written_one : (a b : Result ℕ Refusal) → said_written a ≡ said_written b → a ≡ b
+unfolding said_written
+written_one a b e = one_answer 0 a b (ap (λ (w : Written). w.number) e) (ap (λ (w : Written). w.len) e)

@@ -1,10 +1,9 @@
 -- 'Scripts': frames, and what the script reader and the script writer answer.
-use Rattle.std.specs.Prelude.{ℕ, ◌+◌, ◌-◌, ◌*◌, ◌/◌, ◌%◌, Bool, not, ◌&&◌, List, [], ◌∷◌, ◌++◌, length, drop, ◌==◌, nat_le, nat_lt, slice_index}
-use Rattle.slots.specs.Refusals.{Check, ◌when◌, refusal, granted}
+use Rattle.std.specs.Prelude.{ℕ, ◌+◌, ◌-◌, ◌*◌, ◌/◌, ◌%◌, Bool, not, ◌&&◌, List, [], ◌∷◌, ◌++◌, length, drop, ◌==◌, nat_le, nat_lt, slice_index, Result}
+use Rattle.slots.specs.Refusals.{Check, ◌when◌, refusal, granted, number_in, value_in}
 use Rattle.script.specs.declared.code.Instr.{Instr}
 use Rattle.script.specs.declared.code.Script.{Script}
-use Rattle.script.specs.declared.reading.ReadScript.{ReadScript}
-use Rattle.script.specs.declared.writing.Written.{Written}
+use Rattle.slots.specs.declared.refusals.Refusal.{Refusal}
 use Rattle.script.specs.Scripts.{instr_bytes, head_bytes, instr, word, instrs, script_of, blank_script}
 use Rattle.script.specs.Legal.{code_checks, script_checks}
 
@@ -60,8 +59,17 @@ read_checks f = (7 when not (is_frame f)) ∷ code_checks (length (decode (body 
 unfoldable pub read_refusal : List ℕ → ℕ
 read_refusal f = refusal (read_checks f)
 
+-- an answer in the description's numbers: the refusal, 0 for none, and the script
+pub record ReadScript : Type 0 where
+  pub number : ℕ
+  pub script : Script
+
 abbrev pub read_as : ℕ → Script → ReadScript
 read_as n s = record { number = n; script = s }
+
+-- what each answer says
+unfoldable pub said_read : Result Script Refusal → ReadScript
+said_read a = read_as (number_in a) (value_in blank_script a)
 
 -- the script of the frame f, or a refusal's number and the blank script
 unfoldable pub read_script : List ℕ → ReadScript
@@ -75,6 +83,15 @@ write_checks s room = script_checks s ++ ((14 when nat_lt room (frame_bytes s.le
 
 unfoldable pub write_refusal : Script → ℕ → ℕ
 write_refusal s room = refusal (write_checks s room)
+
+-- an answer in the description's numbers: the refusal, 0 for none, and how many bytes
+pub record Written : Type 0 where
+  pub number : ℕ
+  pub len : ℕ
+
+-- what each answer says
+unfoldable pub said_written : Result ℕ Refusal → Written
+said_written a = record { number = number_in a; len = value_in 0 a }
 
 -- how many bytes are written, or a refusal's number and none
 unfoldable pub written : Script → ℕ → Written

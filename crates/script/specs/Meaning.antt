@@ -1,12 +1,11 @@
 -- 'Scripts', the table of ops: what an instruction does.
 --
 -- An instruction is an act of one of three kinds, and the rules of seats and slots know of it no more than that.
-use Rattle.std.specs.Prelude.{ℕ, ◌+◌, ◌-◌, ◌%◌, ◌^◌, Bool, cond, List, ◌∷◌, replicate, nat_lt, slice_index, slice_set}
+use Rattle.std.specs.Prelude.{ℕ, ◌+◌, ◌-◌, ◌%◌, ◌^◌, Bool, cond, List, ◌∷◌, replicate, nat_lt, slice_index, slice_set, Option, Some, None}
 use Rattle.slots.specs.Owners.{cell}
 use Rattle.script.specs.declared.code.Instr.{Instr}
 use Rattle.script.specs.declared.act.Access.{Access}
-use Rattle.script.specs.declared.act.Access.TheVariants.{Nothing, Reads, Writes}
-use Rattle.script.specs.declared.act.Local.{Local}
+use Rattle.script.specs.declared.act.Access.TheVariants.{Reads, Writes}
 use Rattle.script.specs.Scripts.{k16}
 use Rattle.script.specs.Legal.{is_op}
 
@@ -54,11 +53,16 @@ act_of x r =
 
 -- ---- the code's two answers about an act
 
--- the cell it accesses
-unfoldable pub access_of : Act → Access
-access_of (local r n) = Nothing
-access_of (reads a c) = Reads a (cell c)
-access_of (writes c v) = Writes (cell c) v
+-- the cell it accesses, if any
+unfoldable pub access_of : Act → Option Access
+access_of (local r n) = None
+access_of (reads a c) = Some (Reads a (cell c))
+access_of (writes c v) = Some (Writes (cell c) v)
+
+-- the registers, and how many instructions are skipped
+pub record Local : Type 0 where
+  pub regs : List ℕ
+  pub skip : ℕ
 
 abbrev pub moved : List ℕ → ℕ → Local
 moved r n = record { regs = r; skip = n }

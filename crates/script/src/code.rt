@@ -1,10 +1,10 @@
 // Instructions and scripts as values.
-ghost use Rattle.std.specs.Prelude.{◌≡◌, ◌<◌};
-ghost use Rattle.script.specs.Scripts.{word, blank_script};
+ghost use Rattle.std.specs.Prelude.{◌≡◌};
+ghost use Rattle.script.specs.Scripts.{word, instrs, blank_script};
 
 use crate::MAX_INSTRUCTIONS;
 
-#[derive(Clone, Copy)]
+#[derive(Clone, Copy, Debug, PartialEq, Eq)]
 pub struct Instr {
     pub op: u8,
     pub a: u8,
@@ -13,7 +13,7 @@ pub struct Instr {
 }
 
 // The first `len` of `code` are the script's instructions; what stands behind them means nothing.
-#[derive(Clone, Copy)]
+#[derive(Clone, Copy, Debug, PartialEq, Eq)]
 pub struct Script {
     pub code: [Instr; MAX_INSTRUCTIONS],
     pub len: usize,
@@ -34,23 +34,26 @@ impl Script {
         len: 0,
     };
 
+    #[tactic(auto, unfolding(crate::specs::Scripts::blank_script))]
     pub fn blank() -> Script
         ensures { result ≡ blank_script }
     {
         Script::BLANK
     }
-}
 
-// A byte as an index or a count.
-pub fn wide(x: u8) -> usize
-    ensures { (result ≡ x) × (result < 256) }
-{
-    x as usize
+    // Its instructions, whatever the length says: there are never more than there is room for.
+    #[tactic(auto, unfolding(crate::specs::Scripts::instrs))]
+    pub fn instrs(&self) -> &[Instr]
+        ensures { result.now ≡ instrs self.now }
+    {
+        &self.code[..self.len.min(MAX_INSTRUCTIONS)]
+    }
 }
 
 // Two bytes, the high byte first.
+#[tactic(auto, unfolding(crate::specs::Scripts::word))]
 pub fn word(high: u8, low: u8) -> u32
     ensures { result ≡ word high low }
 {
-    high as u32 * 256 + low as u32
+    u32::from(u16::from_be_bytes([high, low]))
 }

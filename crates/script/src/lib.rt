@@ -7,10 +7,10 @@ mod legal;
 mod reading;
 mod writing;
 
-pub use act::{Access, Local, with_register};
+pub use act::{Access, Registers, set_register};
 pub use code::{Instr, Script, word};
-pub use reading::{ReadScript, read_script};
-pub use writing::{Written, write_script};
+pub use reading::read_script;
+pub use writing::write_script;
 
 // The most instructions a script has.
 pub const MAX_INSTRUCTIONS: usize = 64;

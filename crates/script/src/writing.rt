@@ -1,58 +1,55 @@
 // The script writer: a script to the frame at the front of a destination.
-ghost use Rattle.std.specs.Prelude.{◌≡◌, ◌+◌, ◌*◌, ◌≤◌, ◌++◌, length, take, drop};
+ghost use Rattle.std.specs.Prelude.{◌≡◌, ◌*◌, ◌≤◌, ◌++◌, length, drop};
 ghost use Rattle.script.specs.Scripts.{max_instructions, instr_bytes, instrs};
-ghost use Rattle.script.specs.Frames.{bytes_of, frame_of, frame_bytes, written, destination};
+ghost use Rattle.script.specs.Frames.{bytes_of, encode, frame_of, frame_bytes, said_written, written, destination};
 
 use crate::{HEAD_BYTES, INSTR_BYTES, Instr, Script, VERSION};
+use slots::Refusal;
 
-// How many bytes were written, or a refusal's number and none.
-#[derive(Clone, Copy)]
-pub struct Written {
-    pub number: u32,
-    pub len: usize,
+impl Instr {
+    fn bytes(self) -> [u8; INSTR_BYTES]
+        ensures { result ≡ bytes_of self }
+    {
+        [self.op, self.a, self.b, self.c]
+    }
 }
 
-// The four bytes of x, from `at` on.
-fn put_instr(x: Instr, dst: &mut [u8], at: usize)
-    requires { at + instr_bytes ≤ length dst.old }
-    ensures { dst.new ≡ take at dst.old ++ (bytes_of x ++ drop (at + instr_bytes) dst.old) }
+// The body of a frame, where it has its place. Not through `chunks_exact_mut`: after it a proof
+// knows the slice's length and no byte (`returns`).
+fn put_body(code: &[Instr], body: &mut [u8])
+    requires { length body.old ≡ instr_bytes * length code.now }
+    ensures { body.new ≡ encode code.now }
 {
-    dst[at] = x.op;
-    dst[at + 1] = x.a;
-    dst[at + 2] = x.b;
-    dst[at + 3] = x.c;
+    for (i, x) in code.iter().enumerate() {
+        let at = INSTR_BYTES * i;
+        body[at..at + INSTR_BYTES].copy_from_slice(&x.bytes());
+    }
 }
 
 // The frame of a script, at the front of dst.
-fn put_frame(s: Script, dst: &mut [u8]) -> usize
-    requires { (s.len ≤ max_instructions) × (frame_bytes s.len ≤ length dst.old) }
-    ensures { (result ≡ frame_bytes s.len) × (dst.new ≡ frame_of (instrs s) ++ drop (frame_bytes s.len) dst.old) }
+#[tactic(auto, unfolding(crate::specs::Scripts::instrs))]
+fn put_frame(s: &Script, dst: &mut [u8]) -> usize
+    requires short { s.now.len ≤ max_instructions }
+    requires room { frame_bytes s.now.len ≤ length dst.old }
+    ensures bytes { result ≡ frame_bytes s.now.len }
+    ensures frame { dst.new ≡ frame_of (instrs s.now) ++ drop (frame_bytes s.now.len) dst.old }
 {
-    let k = s.len;
-    dst[0] = VERSION;
-    dst[1] = (INSTR_BYTES * k / 256) as u8;
-    dst[2] = (INSTR_BYTES * k % 256) as u8;
-    let mut i = 0;
-    while i < k {
-        let x = s.code[i];
-        put_instr(x, dst, HEAD_BYTES + INSTR_BYTES * i);
-        i += 1;
-    }
-    HEAD_BYTES + INSTR_BYTES * k
+    let code = s.instrs();
+    let n = INSTR_BYTES * code.len();
+    let [high, low] = (n as u16).to_be_bytes();
+    dst[..HEAD_BYTES].copy_from_slice(&[VERSION, high, low]);
+    put_body(code, &mut dst[HEAD_BYTES..HEAD_BYTES + n]);
+    HEAD_BYTES + n
 }
 
-pub fn write_script(script: Script, dst: &mut [u8]) -> Written
-    ensures { (result ≡ written script (length dst.old)) × (dst.new ≡ destination script dst.old) }
+#[tactic(auto, using(crate::proofs::Writer::few), unfolding(slots::specs::Refusals::number_in))]
+pub fn write_script(script: &Script, dst: &mut [u8]) -> Result<usize, Refusal>
+    ensures answer { said_written result ≡ written script.now (length dst.old) }
+    ensures destination { dst.new ≡ destination script.now dst.old }
 {
-    let number = script.refusal();
-    if number != 0 {
-        return Written { number, len: 0 };
-    }
+    script.check()?;
     if dst.len() < HEAD_BYTES + INSTR_BYTES * script.len {
-        return Written { number: 14, len: 0 };
+        return Err(Refusal::DestinationTooShort);
     }
-    Written {
-        number: 0,
-        len: put_frame(script, dst),
-    }
+    Ok(put_frame(script, dst))
 }

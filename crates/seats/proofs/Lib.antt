@@ -1,5 +1,4 @@
 pub mod Lines
 pub mod Shape
-pub mod Shift
 pub mod Hands
 pub mod Owned

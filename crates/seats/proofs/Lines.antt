@@ -9,9 +9,10 @@ use mathlib.Core.List.{List, [], ◌∷◌, ◌++◌}
 use native.Mathlib.Omega.{arith}
 use native.Mathlib.Numerals.{add-one}
 use lib.Dec.{leb, eqb}
-use lib.ListN.{length, take, drop, get_or, length-append, length-take, length-drop, length-set, drop_of_length-le}
-use lib.Seq.{drop-cons, take-append-le, take-suc-set, get_or-take}
+use lib.ListN.{length, take, drop, get_or, length-append, length-take, length-drop, length-set}
+use lib.Seq.{take-append-le, take-suc-set}
 use borrow.Author.Tests.{leb-true, leb-false, le-leb, lt-leb, eq-eqb, ne_eqb, eqb-true}
+use Rattle.std.specs.List.{list_any}
 use Rattle.slots.proofs.Truth.{and_r, or_l, not_both, split}
 use Rattle.seats.specs.declared.queue.Queue.{Queue}
 use Rattle.seats.specs.Queues.{seats, no_one, entries, is_entry, waits_in, joined, served, head_of, is_head}
@@ -33,26 +34,11 @@ take_first : (n : ℕ) (xs : List ℕ) → suc n ≤ length xs → take (suc n) 
 take_first n [] h = absurd (omega arith)
 take_first n (x ∷ xs) h = ap (λ (l : List ℕ). x ∷ l) (sym (take-append-le n xs (0 ∷ []) (omega arith)))
 
--- ---- a loop that looks for seat s among the entries, at entry i
-
-module _ (q : Queue) (s i : ℕ) where
-  entry_here : i < length (entries q) → is_entry s (drop i (entries q)) ≡ (eqb (get_or q.seats i 0) s || is_entry s (drop (suc i) (entries q)))
-  unfolding is_entry entries
-  entry_here h =
-      let l : i < q.len = omega (arith, length-take q.len q.seats) in
-      ap (is_entry s) (drop-cons (entries q) i 0 h)
-      ∙ ap (λ (x : ℕ). eqb x s || is_entry s (drop (suc i) (entries q))) (get_or-take q.len q.seats i 0 l)
-
-  pub entry_hit : i < length (entries q) → eqb (get_or q.seats i 0) s ≡ true → is_entry s (drop i (entries q)) ≡ true
-  entry_hit h e = entry_here h ∙ or_l (is_entry s (drop (suc i) (entries q))) e
-
-  pub entry_miss : i < length (entries q) → eqb (get_or q.seats i 0) s ≡ false
-      → is_entry s (drop i (entries q)) ≡ is_entry s (drop (suc i) (entries q))
-  entry_miss h e = entry_here h ∙ rw e
-
-  pub entry_end : length (entries q) ≤ i → is_entry s (drop i (entries q)) ≡ false
-  unfolding is_entry
-  entry_end h = rw (drop_of_length-le (entries q) {i = i} h)
+-- what `contains` answers at a list
+pub entry_any : (i : ℕ) (xs : List ℕ) → list_any (λ y. eqb y i) xs ≡ is_entry i xs
+unfolding is_entry
+entry_any i [] = refl
+entry_any i (x ∷ xs) = ap (λ (b : Bool). eqb x i || b) (entry_any i xs)
 
 -- ---- the queue that no one waits in
 

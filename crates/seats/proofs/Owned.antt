@@ -5,12 +5,18 @@ use Prim.Native.Nat.{ℕ, zero, suc, ◌≤◌, ◌<◌}
 use mathlib.Core.Path.{◌≡◌, refl, sym, ap, ◌∙◌}
 use mathlib.Core.Logic.{⊎_elim}
 use mathlib.Core.Bool.{◌||◌, or-false, and-true, and-false}
-use mathlib.Core.List.{List, [], ◌∷◌}
+use mathlib.Core.List.{List, [], ◌∷◌, map}
 use native.Mathlib.Omega.{arith}
 use lib.Dec.{eqb}
 use lib.ListN.{length, get_or, drop, drop_of_length-le}
 use lib.Seq.{drop-cons}
 use borrow.Author.Tests.{eq-eqb}
+use denote.Ref.{Bor}
+use Rattle.std.specs.Prelude.{reverse}
+use Rattle.std.specs.List.{fold}
+use Rattle.std.proofs.lemmas.List.{reverse-append}
+use Rattle.std.proofs.lemmas.List.Folds.{fold-map}
+use Rattle.std.proofs.lemmas.List.Sums.{fold-append}
 use Rattle.slots.specs.Sizes.{slots}
 use Rattle.slots.specs.declared.set.SlotSet.{SlotSet}
 use Rattle.slots.specs.Sets.{has, none, union}
@@ -32,6 +38,20 @@ module _ (t : SlotTable) (i : ℕ) where
   pub union-end : length t.held ≤ i → union_of (drop i t.held) ≡ none
   unfolding union_of
   union-end h = ap union_of (drop_of_length-le t.held {i = i} h)
+
+-- what folding from the back gives, over the sets and over references to them
+union_back : (hs : List SlotSet) → fold (λ (a h : SlotSet). union h a) none (reverse hs) ≡ union_of hs
+unfolding union_of
+union_back [] = refl
+union_back (h ∷ hs) =
+    ap (fold (λ (a x : SlotSet). union x a) none) (reverse-append (h ∷ []) hs) ∙ fold-append (λ (a x : SlotSet). union x a) none (reverse hs) (h ∷ [])
+    ∙ ap (union h) (union_back hs)
+
+pub union_folded : (hs : List SlotSet) (rs : List (Bor SlotSet)) → map (λ r. r.now) rs ≡ reverse hs
+    → fold (λ (a : SlotSet) (r : Bor SlotSet). union r.now a) none rs ≡ union_of hs
+union_folded hs rs e =
+    sym (fold-map (λ (a h : SlotSet). union h a) (λ (r : Bor SlotSet). r.now) none rs)
+    ∙ ap (fold (λ (a h : SlotSet). union h a) none) e ∙ union_back hs
 
 -- ---- in the union, and in one of the sets
 

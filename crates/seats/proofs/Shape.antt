@@ -2,8 +2,8 @@
 -- its fields, and an array's row says its length and that each element is a value of the element's type (`element`, said once for all types).
 -- A table whose arrays are that long stays so after a store, and past the end of an array nothing is stored or found.
 use Prim.Native.Nat.{ℕ, zero, suc, ◌≤◌, ◌<◌}
-use mathlib.Core.Path.{◌≡◌, sym, ◌∙◌}
-use mathlib.Core.List.{List, [], ◌∷◌, map}
+use mathlib.Core.Path.{◌≡◌}
+use mathlib.Core.List.{List, [], ◌∷◌}
 use native.Mathlib.Omega.{arith}
 use lib.ListN.{length, get_or, length-set, get_or-eq_default}
 use lib.Seq.{set_out}
@@ -11,7 +11,7 @@ use mir.Val.{Val}
 use denote.Shadow.{shadow}
 use denote.Array.{each}
 use denote.Laws.{Is}
-use denote.Struct.Declared.{Declared, row, field}
+use denote.Struct.Declared.{Declared, row}
 use Rattle.slots.specs.Sizes.{slots}
 use Rattle.slots.specs.declared.set.SlotSet.{SlotSet}
 use Rattle.seats.specs.declared.queue.Queue.{Queue}
@@ -71,9 +71,6 @@ module _ (t : SlotTable) (w : Whole t) where
   -- there is no such seat, and no such slot
   pub held_past : (i : ℕ) (h : SlotSet) → seats ≤ i → with_held t i h ≡ t
   held_past i h l = rw (set_out t.held i h (omega (arith, w.held16)))
-
-  pub queue_past : (k : ℕ) (q : Queue) → slots ≤ k → with_queue t k q ≡ t
-  queue_past k q l = rw (set_out t.queues k q (omega (arith, w.queues64)))
 
   pub no_queue_lem : (k : ℕ) → slots ≤ k → queue_of t k ≡ no_queue
   no_queue_lem k l = get_or-eq_default t.queues no_queue (omega (arith, w.queues64))

@@ -1,11 +1,11 @@
 // The queue of a slot: the seats that wait for it, in their order.
-ghost use Rattle.std.specs.Prelude.{◌≡◌, ◌≤◌, length};
+ghost use Rattle.std.specs.Prelude.{◌≡◌};
 ghost use Rattle.seats.specs.Queues.{no_one, entries, waits_in, joined, served, head_of};
 
 use crate::SEATS;
 
 // The first `len` of `seats` wait; what stands behind them means nothing.
-#[derive(Clone, Copy)]
+#[derive(Clone, Copy, Debug, PartialEq, Eq)]
 pub struct Queue {
     pub seats: [u8; SEATS],
     pub len: usize,
@@ -17,71 +17,55 @@ impl Queue {
         len: 0,
     };
 
+    #[tactic(auto, unfolding(crate::specs::Queues::no_one))]
     pub fn empty() -> Queue
         ensures { result ≡ no_one }
     {
         Queue::EMPTY
     }
 
-    // How many entries there are, whatever the length says.
-    fn size(self) -> usize
-        ensures { (result ≡ length (entries self)) × (result ≤ 16) }
+    // The seats that wait, whatever the length says.
+    #[tactic(auto, unfolding(crate::specs::Queues::entries))]
+    pub fn entries(&self) -> &[u8]
+        ensures { result.now ≡ entries self.now }
     {
-        let n = self.len;
-        if n < SEATS { n } else { SEATS }
+        &self.seats[..self.len.min(SEATS)]
     }
 
-    pub fn has(self, seat: u8) -> bool
-        ensures { result ≡ waits_in self seat }
+    pub fn has(&self, seat: u8) -> bool
+        ensures { result ≡ waits_in self.now seat }
     {
-        let n = self.size();
-        let mut i = 0;
-        while i < n {
-            if self.seats[i] == seat {
-                return true;
-            }
-            i += 1;
-        }
-        false
+        self.entries().contains(&seat)
     }
 
-    pub fn head(self) -> u8
-        ensures { result ≡ head_of self }
+    #[tactic(auto, unfolding(crate::specs::Queues::head_of))]
+    pub fn head(&self) -> u8
+        ensures { result ≡ head_of self.now }
     {
         self.seats[0]
     }
 
-    // With a seat at its tail; a full queue stays as it is.
-    pub fn joined(mut self, seat: u8) -> Queue
-        ensures { result ≡ joined self seat }
+    // A seat comes to its tail; a full queue stays as it is.
+    #[tactic(auto, unfolding(crate::specs::Queues::joined))]
+    pub fn join(&mut self, seat: u8)
+        ensures { self.new ≡ joined self.old seat }
     {
-        let n = self.len;
-        if SEATS <= n {
-            return self;
+        if self.len < SEATS {
+            self.seats[self.len] = seat;
+            self.len += 1;
         }
-        self.seats[n] = seat;
-        self.len = n + 1;
-        self
     }
 
-    // Without its head: those behind it move up, and a zero comes in at the end. An empty queue
+    // Its head leaves: those behind it move up, and a zero comes in at the end. An empty queue
     // stays as it is.
-    pub fn served(mut self) -> Queue
-        ensures { result ≡ served self }
+    #[tactic(auto, unfolding(crate::specs::Queues::served))]
+    pub fn serve(&mut self)
+        ensures { self.new ≡ served self.old }
     {
-        let n = self.len;
-        if n == 0 {
-            return self;
+        if self.len != 0 {
+            self.seats.copy_within(1.., 0);
+            self.seats[SEATS - 1] = 0;
+            self.len -= 1;
         }
-        let mut a = self.seats;
-        let mut i = 0;
-        while i < SEATS - 1 {
-            a[i] = a[i + 1];
-            i += 1;
-        }
-        a[SEATS - 1] = 0;
-        self.seats = a;
-        self.len = n - 1;
-        self
     }
 }

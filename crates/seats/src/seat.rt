@@ -1,12 +1,12 @@
 // A seat: its script, where the run of it stands, what it wants back after a restart, its counts.
-ghost use Rattle.std.specs.Prelude.{◌≡◌};
+ghost use Rattle.std.specs.Prelude.{◌≡◌, take};
 ghost use Rattle.seats.specs.Seats.{is_open, opened_run, blank_seat};
 
-use script::{MAX_INSTRUCTIONS, REGISTERS, Script};
+use script::{MAX_INSTRUCTIONS, REGISTERS, Registers, Script};
 use slots::{Cell, SlotSet};
 
 // A write that the seat keeps until it commits.
-#[derive(Clone, Copy)]
+#[derive(Clone, Copy, Debug, PartialEq, Eq)]
 pub struct Write {
     pub cell: Cell,
     pub value: u32,
@@ -14,24 +14,24 @@ pub struct Write {
 
 // The reading given at the opening, the position, the registers, and the kept writes: the first
 // `kept` of `writes`, in their order; what stands behind them means nothing.
-#[derive(Clone, Copy)]
+#[derive(Clone, Copy, Debug, PartialEq, Eq)]
 pub struct Run {
     pub reading: u32,
     pub at: usize,
-    pub regs: [u32; REGISTERS],
+    pub regs: Registers,
     pub writes: [Write; MAX_INSTRUCTIONS],
     pub kept: usize,
 }
 
 // Restarts, working count, and the slots held just before the end.
-#[derive(Clone, Copy)]
+#[derive(Clone, Copy, Debug, PartialEq, Eq)]
 pub struct Tally {
     pub restarts: u32,
     pub working: u32,
     pub slots: u32,
 }
 
-#[derive(Clone, Copy)]
+#[derive(Clone, Copy, Debug, PartialEq, Eq)]
 pub enum Phase {
     Blank,
     Open,
@@ -40,7 +40,7 @@ pub enum Phase {
 }
 
 // What a seat holds stands in the slot table, and what it wants back here.
-#[derive(Clone, Copy)]
+#[derive(Clone, Copy, Debug, PartialEq, Eq)]
 pub struct Seat {
     pub phase: Phase,
     pub script: Script,
@@ -66,6 +66,7 @@ impl Run {
     };
 
     // Register 0 is the reading, the others are zero, position is 0.
+    #[tactic(auto, unfolding(crate::specs::Seats::opened_run, script::specs::Meaning::opening_registers))]
     pub fn opened(reading: u32) -> Run
         ensures { result ≡ opened_run reading }
     {
@@ -76,6 +77,13 @@ impl Run {
             regs,
             ..Run::BLANK
         }
+    }
+
+    // The kept writes, whatever their number says.
+    pub fn kept_writes(&self) -> &[Write]
+        ensures { result.now ≡ take self.now.kept self.now.writes }
+    {
+        &self.writes[..self.kept.min(MAX_INSTRUCTIONS)]
     }
 }
 
@@ -88,15 +96,11 @@ impl Tally {
 }
 
 impl Phase {
+    #[tactic(auto, unfolding(crate::specs::Seats::is_open))]
     pub fn is_open(self) -> bool
         ensures { result ≡ is_open self }
     {
-        match self {
-            Phase::Blank => false,
-            Phase::Open => true,
-            Phase::Committed => false,
-            Phase::Failed => false,
-        }
+        matches!(self, Phase::Open)
     }
 }
 
@@ -109,6 +113,7 @@ impl Seat {
         tally: Tally::NONE,
     };
 
+    #[tactic(auto, unfolding(crate::specs::Seats::blank_seat, crate::specs::Seats::blank_run, script::specs::Scripts::blank_script))]
     pub fn blank() -> Seat
         ensures { result ≡ blank_seat }
     {

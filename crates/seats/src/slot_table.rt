@@ -1,13 +1,13 @@
 // The slot table: which slots each seat holds, and the queue of each slot. A slot's owner is the
 // seat that holds it; nothing else says so.
 ghost use Rattle.std.specs.Prelude.{◌≡◌};
-ghost use Rattle.seats.specs.SlotTables.{all_free, held_by, queue_of, owned, taken, joined_by, handed, handed_on, released};
+ghost use Rattle.seats.specs.SlotTables.{held_by, queue_of, owned, taken, joined_by, handed, handed_on, released};
 ghost use Rattle.seats.specs.Queues.{waits_in};
 
 use crate::{Queue, SEATS};
 use slots::{SLOTS, Slot, SlotSet};
 
-#[derive(Clone, Copy)]
+#[derive(Clone, Copy, Debug, PartialEq, Eq)]
 pub struct SlotTable {
     pub held: [SlotSet; SEATS],
     pub queues: [Queue; SLOTS as usize],
@@ -20,107 +20,87 @@ impl SlotTable {
     };
 
     // The slots that a seat holds: none where there is no such seat.
-    pub fn held_by(self, seat: u8) -> SlotSet
-        ensures { result ≡ held_by self seat }
+    pub fn held_by(&self, seat: u8) -> SlotSet
+        ensures { result ≡ held_by self.now seat }
     {
-        let i = seat as usize;
-        if i < SEATS {
-            self.held[i]
-        } else {
-            SlotSet::EMPTY
-        }
+        self.held
+            .get(usize::from(seat))
+            .copied()
+            .unwrap_or(SlotSet::EMPTY)
     }
 
-    // The slots that some seat holds.
-    pub fn owned(self) -> SlotSet
-        ensures { result ≡ owned self }
+    // The slots that some seat holds: from the last seat, which is how the definition unites them.
+    pub fn owned(&self) -> SlotSet
+        ensures { result ≡ owned self.now }
     {
-        let mut all = SlotSet::EMPTY;
-        let mut i = SEATS;
-        while 0 < i {
-            i -= 1;
-            let h = self.held[i];
-            all = h.union(all);
-        }
-        all
+        self.held
+            .iter()
+            .rfold(SlotSet::EMPTY, |all, h| h.union(all))
     }
 
     // The seat waits in the queue of s.
-    pub fn waits(self, seat: u8, s: Slot) -> bool
-        ensures { result ≡ waits_in (queue_of self s.0) seat }
+    pub fn waits(&self, seat: u8, s: Slot) -> bool
+        ensures { result ≡ waits_in (queue_of self.now s.0) seat }
     {
-        let k = s.0 as usize;
-        if k < SLOTS as usize {
-            let q = self.queues[k];
-            q.has(seat)
-        } else {
-            false
-        }
+        self.queues.get(s.0 as usize).is_some_and(|q| q.has(seat))
     }
 
-    // The seat holds s too.
-    pub fn taken(mut self, seat: u8, s: Slot) -> SlotTable
-        ensures { result ≡ taken self seat s.0 }
+    // The seat holds s too. By index, here and below: std does not say what a slice is after a
+    // write through its `get_mut` (tried: `returns-in-Some` stayed open).
+    #[tactic(auto, unfolding(crate::specs::SlotTables::taken))]
+    pub fn take(&mut self, seat: u8, s: Slot)
+        ensures { self.new ≡ taken self.old seat s.0 }
     {
-        let i = seat as usize;
+        let i = usize::from(seat);
         if i < SEATS {
-            let h = self.held[i];
-            self.held[i] = h.with(s);
+            self.held[i] = self.held[i].with(s);
         }
-        self
     }
 
-    // The seat is at the tail of the queue of s.
-    pub fn joined(mut self, seat: u8, s: Slot) -> SlotTable
-        ensures { result ≡ joined_by self seat s.0 }
+    // The seat comes to the tail of the queue of s.
+    #[tactic(auto, unfolding(crate::specs::SlotTables::joined_by))]
+    pub fn join(&mut self, seat: u8, s: Slot)
+        ensures { self.new ≡ joined_by self.old seat s.0 }
     {
         let k = s.0 as usize;
         if k < SLOTS as usize {
-            let q = self.queues[k];
-            self.queues[k] = q.joined(seat);
+            self.queues[k].join(seat);
         }
-        self
     }
 
     // A slot goes to the head of its queue, which leaves the queue; with no queue it is left free.
-    fn handed(mut self, s: Slot) -> SlotTable
-        ensures { result ≡ handed self s.0 }
+    #[tactic(auto, unfolding(crate::specs::SlotTables::handed))]
+    fn hand(&mut self, s: Slot)
+        ensures { self.new ≡ handed self.old s.0 }
     {
         let k = s.0 as usize;
-        if SLOTS as usize <= k {
-            return self;
+        if k < SLOTS as usize && self.queues[k].len != 0 {
+            let head = self.queues[k].head();
+            self.queues[k].serve();
+            self.take(head, s);
         }
-        let q = self.queues[k];
-        if q.len == 0 {
-            return self;
-        }
-        self.queues[k] = q.served();
-        self.taken(q.head(), s)
     }
 
     // The same of each slot of a set, the smallest first.
-    fn handed_on(self, set: SlotSet) -> SlotTable
-        ensures { result ≡ handed_on self set }
+    fn hand_on(&mut self, set: SlotSet)
+        ensures { self.new ≡ handed_on self.old set }
     {
-        let mut t = self;
         let mut left = set;
         while !left.is_empty() {
             let s = left.smallest();
             left = left.without(s);
-            t = t.handed(s);
+            self.hand(s);
         }
-        t
     }
 
     // The seat gives up the slots of a set.
-    pub fn released(mut self, seat: u8, set: SlotSet) -> SlotTable
-        ensures { result ≡ released self seat set }
+    pub fn release(&mut self, seat: u8, set: SlotSet)
+        ensures { self.new ≡ released self.old seat set }
     {
-        let i = seat as usize;
+        let i = usize::from(seat);
         if i < SEATS {
-            let h = self.held[i];
-            self.held[i] = h.difference(set);
+            self.held[i] = self.held[i].difference(set);
         }
-        self.handed_on(set)
+        self.hand_on(set);
     }
 }

@@ -4,13 +4,14 @@ ghost use Rattle.seats.specs.Tables.{fresh};
 
 use crate::{SEATS, Seat, SlotTable};
 
-#[derive(Clone, Copy)]
+#[derive(Clone, Copy, Debug, PartialEq, Eq)]
 pub struct Table {
     pub seats: [Seat; SEATS],
     pub slots: SlotTable,
 }
 
 impl Table {
+    #[tactic(auto, unfolding(crate::specs::Tables::fresh, crate::specs::SlotTables::all_free, crate::specs::Queues::no_one))]
     pub fn fresh() -> Table
         ensures { result ≡ fresh }
     {

@@ -8,12 +8,10 @@ use native.Mathlib.Omega.{arith}
 use lib.Dec.{eqb}
 use lib.ListN.{length, get_or, drop}
 use lib.Seq.{drop-drop}
-use Rattle.text.specs.declared.decimal.Number.{Number}
-use Rattle.text.specs.declared.decimal.Number.TheVariants as number
+use Rattle.std.specs.Prelude.{Option, Some, None}
 use Rattle.text.specs.Pieces.{before, behind}
 use Rattle.text.specs.Decimal.{number_in}
 use Rattle.text.specs.Hex.{is_hex, hex_bytes}
-use Rattle.sheet.specs.declared.lines.Line.TheVariants as line
 use Rattle.sheet.specs.Lines.{opens, bad, space, letter_o, letter_s, opening, open_item, item_of, stepping}
 use Rattle.sheet.specs.Lines.{opened_line, stepped_line, frame_at, line_of, item_in, SameItem}
 
@@ -26,16 +24,17 @@ frame_at_lem l =
     let e : 2 + n + 1 + m + 1 ≡ 2 + (n + 1) + (m + 1) = omega arith in
     ap (λ (k : ℕ). drop k l) e ∙ sym (ap (drop (m + 1)) (drop-drop (n + 1) 2 l) ∙ drop-drop (m + 1) (2 + (n + 1)) l)
 
-same_opening : (seat reading : Number) (at : ℕ) (l h : List ℕ) → drop at l ≡ h → item_in (opened_line seat reading at) l ≡ opening seat reading h
+same_opening : (seat reading : Option ℕ) (at : ℕ) (l h : List ℕ) → drop at l ≡ h
+    → item_in (opened_line seat reading at) l ≡ opening seat reading h
 unfolding item_in opened_line opening
-same_opening number.Bad x at l h e = refl
-same_opening (number.Value i) number.Bad at l h e = refl
-same_opening (number.Value i) (number.Value x) at l h e = ap (λ (f : List ℕ). cond (is_hex f) (opens i x (hex_bytes f)) bad) e
+same_opening None x at l h e = refl
+same_opening (Some i) None at l h e = refl
+same_opening (Some i) (Some x) at l h e = ap (λ (f : List ℕ). cond (is_hex f) (opens i x (hex_bytes f)) bad) e
 
-same_step : (seat : Number) (l : List ℕ) → item_in (stepped_line seat) l ≡ stepping seat
+same_step : (seat : Option ℕ) (l : List ℕ) → item_in (stepped_line seat) l ≡ stepping seat
 unfolding item_in stepped_line stepping
-same_step number.Bad l = refl
-same_step (number.Value i) l = refl
+same_step None l = refl
+same_step (Some i) l = refl
 
 pub same_item : SameItem
 unfolding SameItem line_of item_of open_item item_in
@@ -46,7 +45,7 @@ same_item l = go (eqb (get_or l 1 0) space) (eqb (get_or l 0 0) letter_o) (eqb (
 
     go : (a b c : Bool)
         → item_in (cond a (cond b (opened_line (number_in (before space r)) (number_in (before space (behind space r))) (frame_at r))
-        (cond c (stepped_line (number_in r)) line.Bad)) line.Bad) l
+        (cond c (stepped_line (number_in r)) None)) None) l
         ≡ cond a (cond b (open_item r) (cond c (stepping (number_in r)) bad)) bad
     go true true c = same_opening (number_in (before space r)) (number_in (before space (behind space r))) (frame_at r) l _ (frame_at_lem l)
     go true false true = same_step (number_in r) l

@@ -13,8 +13,8 @@ use Rattle.seats.specs.declared.table.Table.{Table}
 use Rattle.seats.specs.Queues.{seats}
 use Rattle.seats.specs.Seats.{is_open}
 use Rattle.seats.specs.Tables.{seat_at}
-use Rattle.course.specs.declared.cases.Word.{Word}
-use Rattle.course.specs.declared.cases.Word.TheVariants as word
+use Rattle.course.specs.Words.{Word}
+use Rattle.course.specs.Words as word
 use Rattle.soundness.specs.Tests.{sound_test}
 use Rattle.table.specs.Calls.{step_call, step_refusal}
 use Rattle.text.specs.Decimal.{digits}

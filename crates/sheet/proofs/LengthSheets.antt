@@ -8,7 +8,7 @@ use native.Mathlib.Omega.{arith}
 use lib.Dec.{ltb, eqb}
 use lib.ListN.{length, get_or, drop, length-drop, drop_of_length-le}
 use borrow.Author.Tests.{ltb-true, ltb-false}
-use Rattle.text.specs.declared.decimal.Number.TheVariants as number
+use Rattle.std.specs.Prelude.{None}
 use Rattle.text.specs.Pieces.{before, behind}
 use Rattle.text.specs.Decimal.{number_in}
 use Rattle.text.proofs.Separators.{before_length}
@@ -19,7 +19,7 @@ use Rattle.sheet.proofs.LengthReplies.{replies}
 
 -- ---- a short line is bad
 
-no_number : number_in [] ≡ number.Bad
+no_number : number_in [] ≡ None
 no_number = sym (none [] refl)
 
 nothing_opened : open_item [] ≡ bad

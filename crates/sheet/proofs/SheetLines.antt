@@ -1,16 +1,22 @@
 -- A sheet is its first line and then the sheet of the others. A line takes at least one byte, so the bytes behind it are fewer, and taking
 -- as many lines as there are bytes takes them all: more would make no difference.
 use Prim.Native.Nat.{ℕ, zero, suc, ◌+◌, ◌-◌, ◌≤◌, ◌<◌}
-use mathlib.Core.Path.{◌≡◌, refl, sym, ap, ◌∙◌}
+use mathlib.Core.Path.{◌≡◌, refl, sym, ap}
 use mathlib.Core.List.{List, [], ◌∷◌}
 use native.Mathlib.Omega.{arith}
 use lib.Dec.{eqb}
-use lib.ListN.{length, take, drop, length-drop}
-use lib.Seq.{take_all}
+use lib.ListN.{length, drop, length-drop}
 use borrow.Author.Tests.{eq-eqb, ne_eqb}
 use Rattle.slots.proofs.Truth.{split}
-use Rattle.text.specs.Pieces.{behind}
+use Rattle.text.specs.Pieces.{before, behind}
+use Rattle.text.proofs.Separators.{before_length}
 use Rattle.sheet.specs.Lines.{Item, item_of, first_line, other_lines, items, sheet}
+
+pub both_within : (b : ℕ) (s : List ℕ) → length (before b s) + length (before b (behind b s)) ≤ length s
+unfolding behind
+both_within b s =
+    let n = length (before b s) in
+    omega (arith, before_length b s, before_length b (drop (n + 1) s), length-drop (n + 1) s)
 
 pub others_length : (s : List ℕ) → length (other_lines s) ≡ length s - (length (first_line s) + 1)
 unfolding behind
@@ -42,6 +48,3 @@ sheet_more (x ∷ r) h =
     rw (ne_eqb (suc (length r)) 0 (λ q. omega arith))
     (ap (λ (ls : List Item). item_of (first_line (x ∷ r)) ∷ ls)
     (items_enough (length r) (length o) o (omega (arith, others_length (x ∷ r))) (omega arith)))
-
-pub past_part : (s : List ℕ) (k : ℕ) → drop k s ≡ other_lines s → take (length s - k) (drop k s) ≡ other_lines s
-past_part s k e = take_all (length s - k) (drop k s) (omega (arith, length-drop k s)) ∙ e

@@ -1,27 +1,18 @@
--- What a line does to the world. How many transactions ended before it changes neither its reply nor the table and the image after it; it
--- ends one at most; and a table that stands is left standing, with as many cells in the image.
+-- What a line does to the world. How many transactions ended before it changes neither its reply nor the table and the image after it; and
+-- it ends one at most.
 use Prim.Native.Nat.{ℕ, ◌+◌, ◌≤◌}
 use mathlib.Core.Path.{◌≡◌, refl, sym}
 use mathlib.Core.List.{List}
 use native.Mathlib.Nat.{add-zero, zero-add}
 use native.Mathlib.Omega.{arith}
-use lib.ListN.{length}
-use Rattle.slots.specs.Owners.{owner_of, OwnersBelow}
-use Rattle.slots.proofs.Owners.{owners_below}
+use Rattle.slots.specs.Owners.{owner_of}
 use Rattle.seats.specs.declared.table.Table.{Table}
-use Rattle.course.specs.declared.cases.Word.{Word}
-use Rattle.course.specs.declared.cases.Word.TheVariants as word
+use Rattle.course.specs.Words.{Word}
+use Rattle.course.specs.Words as word
 use Rattle.table.specs.Calls.{step_call}
-use Rattle.upkeep.proofs.Stands.{Stands, Upkeep}
-use Rattle.upkeep.proofs.Kept.{upkeep}
-use Rattle.upkeep.proofs.Calls.{step_length, step_stands, open_stands}
 use Rattle.sheet.specs.Lines.{Item, opens, steps, bad}
 use Rattle.sheet.specs.Listings.{World, endings, opened, stepped, world_after, reply_to}
 use Rattle.sheet.specs.Turns.{world}
-
-pub owners_kept : Upkeep owner_of
-unfolding OwnersBelow
-owners_kept = upkeep owner_of owners_below
 
 ends_one : (w : Word) → endings w ≤ 1
 unfolding endings
@@ -59,15 +50,3 @@ module _ (t : Table) (img : List ℕ) where
   after_ended (opens i x f) = omega arith
   after_ended (steps i) = omega (arith, ends_one (step_call owner_of t img i).word)
   after_ended bad = omega arith
-
-  pub after_length : (l : Item) → length (world_after (world t img) l).image ≡ length img
-  unfolding world_after opened stepped
-  after_length (opens i x f) = refl
-  after_length (steps i) = step_length owner_of t img i
-  after_length bad = refl
-
-  pub after_stands : (l : Item) → Stands owner_of t → Stands owner_of (world_after (world t img) l).table
-  unfolding world_after opened stepped
-  after_stands (opens i x f) st = open_stands owner_of t owners_kept st i x f
-  after_stands (steps i) st = step_stands owner_of t owners_kept st img i
-  after_stands bad st = st

@@ -1,7 +1,7 @@
 -- What the library's call answers: the listing at the front of the destination.
-use Rattle.std.specs.Prelude.{ℕ, List, [], ◌∷◌, ◌++◌, ltb, length, drop}
-use Rattle.slots.specs.Refusals.{Check, ◌when◌, refusal, granted}
-use Rattle.sheet.specs.declared.listing.Listed.{Listed}
+use Rattle.std.specs.Prelude.{ℕ, List, [], ◌∷◌, ◌++◌, ltb, length, drop, Result}
+use Rattle.slots.specs.declared.refusals.Refusal.{Refusal}
+use Rattle.slots.specs.Refusals.{Check, ◌when◌, refusal, granted, number_in, value_in}
 use Rattle.sheet.specs.Listings.{listing}
 use Rattle.sheet.specs.Bounds.{most_listing}
 
@@ -11,6 +11,15 @@ list_checks room = (14 when ltb room most_listing) ∷ []
 
 unfoldable pub list_refusal : ℕ → ℕ
 list_refusal room = refusal (list_checks room)
+
+-- an answer in the description's numbers: the refusal, 0 for none, and how many bytes
+pub record Listed : Type 0 where
+  pub number : ℕ
+  pub len : ℕ
+
+-- what each answer says
+unfoldable pub said_listed : Result ℕ Refusal → Listed
+said_listed a = record { number = number_in a; len = value_in 0 a }
 
 -- how many bytes are written, or a refusal's number and none
 unfoldable pub listed : List ℕ → ℕ → Listed

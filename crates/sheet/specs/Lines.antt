@@ -1,8 +1,6 @@
 -- 'The sheet program and its listing', the sheet: 'Lines: `o seat reading frame` opens, `s seat` steps. Numbers are decimal, 0 to
 -- 4294967295, no leading zeros; the frame is lower-case hex, at least one byte; one space between.'
-use Rattle.std.specs.Prelude.{ℕ, zero, suc, ◌+◌, ◌≡◌, Bool, true, false, cond, List, [], ◌∷◌, eqb, length, get_or, drop}
-use Rattle.text.specs.declared.decimal.Number.{Number}
-use Rattle.text.specs.declared.decimal.Number.TheVariants as number
+use Rattle.std.specs.Prelude.{ℕ, zero, suc, ◌+◌, ◌≡◌, Bool, true, false, cond, List, [], ◌∷◌, eqb, length, get_or, drop, Option, Some, None}
 use Rattle.sheet.specs.declared.lines.Line.{Line}
 use Rattle.sheet.specs.declared.lines.Line.TheVariants as line
 use Rattle.text.specs.Pieces.{before, behind}
@@ -32,14 +30,14 @@ pub data Item : Type 0 where
   -- a line of another shape
   bad : Item
 
-unfoldable pub opening : Number → Number → List ℕ → Item
-opening number.Bad x h = bad
-opening (number.Value i) number.Bad h = bad
-opening (number.Value i) (number.Value x) h = cond (is_hex h) (opens i x (hex_bytes h)) bad
+unfoldable pub opening : Option ℕ → Option ℕ → List ℕ → Item
+opening None x h = bad
+opening (Some i) None h = bad
+opening (Some i) (Some x) h = cond (is_hex h) (opens i x (hex_bytes h)) bad
 
-unfoldable pub stepping : Number → Item
-stepping number.Bad = bad
-stepping (number.Value i) = steps i
+unfoldable pub stepping : Option ℕ → Item
+stepping None = bad
+stepping (Some i) = steps i
 
 -- behind the letter and the space; where a space is missing, what should follow it is empty, and so neither a number nor hex
 unfoldable pub open_item : List ℕ → Item
@@ -53,31 +51,31 @@ item_of l =
 
 -- ---- the code's answer about a line, which leaves the hex to be read: the frame begins at the place given
 
-unfoldable pub opened_line : Number → Number → ℕ → Line
-opened_line number.Bad x at = line.Bad
-opened_line (number.Value i) number.Bad at = line.Bad
-opened_line (number.Value i) (number.Value x) at = line.Open i x at
+unfoldable pub opened_line : Option ℕ → Option ℕ → ℕ → Option Line
+opened_line None x at = None
+opened_line (Some i) None at = None
+opened_line (Some i) (Some x) at = Some (line.Open i x at)
 
-unfoldable pub stepped_line : Number → Line
-stepped_line number.Bad = line.Bad
-stepped_line (number.Value i) = line.Step i
+unfoldable pub stepped_line : Option ℕ → Option Line
+stepped_line None = None
+stepped_line (Some i) = Some (line.Step i)
 
 -- behind the letter, a space, the seat, a space, the reading and a space
 unfoldable pub frame_at : List ℕ → ℕ
 frame_at r = 2 + length (before space r) + 1 + length (before space (behind space r)) + 1
 
-unfoldable pub line_of : List ℕ → Line
+unfoldable pub line_of : List ℕ → Option Line
 line_of l =
     cond (eqb (get_or l 1 0) space)
     (cond (eqb (get_or l 0 0) letter_o)
     (opened_line (number_in (before space (drop 2 l))) (number_in (before space (behind space (drop 2 l)))) (frame_at (drop 2 l)))
-    (cond (eqb (get_or l 0 0) letter_s) (stepped_line (number_in (drop 2 l))) line.Bad))
-    line.Bad
+    (cond (eqb (get_or l 0 0) letter_s) (stepped_line (number_in (drop 2 l))) None))
+    None
 
-unfoldable pub item_in : Line → List ℕ → Item
-item_in (line.Open i x at) l = cond (is_hex (drop at l)) (opens i x (hex_bytes (drop at l))) bad
-item_in (line.Step i) l = steps i
-item_in line.Bad l = bad
+unfoldable pub item_in : Option Line → List ℕ → Item
+item_in (Some (line.Open i x at)) l = cond (is_hex (drop at l)) (opens i x (hex_bytes (drop at l))) bad
+item_in (Some (line.Step i)) l = steps i
+item_in None l = bad
 
 unfoldable pub SameItem : Type 0
 SameItem = (l : List ℕ) → item_in (line_of l) l ≡ item_of l

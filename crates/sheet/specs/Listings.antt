@@ -4,8 +4,8 @@ use Rattle.slots.specs.Sizes.{cells}
 use Rattle.slots.specs.Owners.{owner_of}
 use Rattle.seats.specs.declared.table.Table.{Table}
 use Rattle.seats.specs.Tables.{fresh}
-use Rattle.course.specs.declared.cases.Word.{Word}
-use Rattle.course.specs.declared.cases.Word.TheVariants as word
+use Rattle.course.specs.Words.{Word}
+use Rattle.course.specs.Words as word
 use Rattle.table.specs.Calls.{open_call, step_call, step_image}
 use Rattle.text.specs.Decimal.{digits}
 use Rattle.sheet.specs.Lines.{Item, opens, steps, bad, line_feed, space, letter_o, letter_s, is_bad, sheet}

@@ -1,7 +1,7 @@
 -- The fixed byte strings of a listing: its header and the reply words.
 use Rattle.std.specs.Prelude.{ℕ, List, [], ◌∷◌}
-use Rattle.course.specs.declared.cases.Word.{Word}
-use Rattle.course.specs.declared.cases.Word.TheVariants as word
+use Rattle.course.specs.Words.{Word}
+use Rattle.course.specs.Words as word
 
 -- `wear-run 1` and a line feed
 unfoldable pub header : List ℕ

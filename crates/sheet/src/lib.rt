@@ -8,4 +8,4 @@ mod pieces;
 mod replies;
 mod words;
 
-pub use listing::{Listed, MOST_INPUT, MOST_LISTING, list_sheet};
+pub use listing::{MOST_INPUT, MOST_LISTING, list_sheet};

@@ -1,27 +1,27 @@
-// Bytes and numbers, one behind the other, at a place of the destination where there is room for them.
-ghost use Rattle.std.specs.Prelude.{◌≡◌, ◌++◌, ◌+◌, ◌≤◌, length};
+// Bytes and numbers, one behind the other, on a page where there is room for them.
+ghost use Rattle.std.specs.Prelude.{◌++◌};
 ghost use Rattle.text.specs.Decimal.{digits};
-ghost use Rattle.text.specs.Buffers.{put};
+ghost use Rattle.text.specs.Pages.{HasRoom, Adds};
 ghost use Rattle.sheet.specs.Listings.{line};
 
-use text::{append, append_u32};
+use text::Page;
 
 // The bytes s and the digits of n.
 #[tactic(auto, using(crate::proofs::Putting::putting))]
-pub fn put_number(dst: &mut [u8], at: usize, s: &[u8], n: u32) -> usize
-    requires { at + length (s.now ++ digits n) ≤ length dst.old }
-    ensures { (result ≡ at + length (s.now ++ digits n)) × (dst.new ≡ put dst.old at (s.now ++ digits n)) }
+pub fn put_number(page: &mut Page, s: &[u8], n: u32)
+    requires { HasRoom page.old (s.now ++ digits n) }
+    ensures { Adds page.old page.new (s.now ++ digits n) }
 {
-    let a = append(dst, at, s);
-    append_u32(dst, a, n)
+    page.put(s);
+    page.put_u32(n);
 }
 
 // The same, and the end of the line.
 #[tactic(auto, using(crate::proofs::Putting::putting))]
-pub fn put_line(dst: &mut [u8], at: usize, s: &[u8], n: u32) -> usize
-    requires { at + length (line (s.now ++ digits n)) ≤ length dst.old }
-    ensures { (result ≡ at + length (line (s.now ++ digits n))) × (dst.new ≡ put dst.old at (line (s.now ++ digits n))) }
+pub fn put_line(page: &mut Page, s: &[u8], n: u32)
+    requires { HasRoom page.old (line (s.now ++ digits n)) }
+    ensures { Adds page.old page.new (line (s.now ++ digits n)) }
 {
-    let a = put_number(dst, at, s, n);
-    append(dst, a, b"\n")
+    put_number(page, s, n);
+    page.put(b"\n");
 }

@@ -1,42 +1,46 @@
 // What follows the seat in the line of a step.
-ghost use Rattle.std.specs.Prelude.{◌≡◌, ◌∷◌, ◌+◌, ◌≤◌, length};
-ghost use Rattle.text.specs.Buffers.{put};
+ghost use Rattle.std.specs.Prelude.{◌≡◌, ◌∷◌};
+ghost use Rattle.slots.specs.Refusals.{number_in};
+ghost use Rattle.course.specs.Words.{said_word};
+ghost use Rattle.table.specs.Answers.{word_in};
+ghost use Rattle.text.specs.Pages.{HasRoom, Adds};
 ghost use Rattle.sheet.specs.Lines.{space};
 ghost use Rattle.sheet.specs.Listings.{line, reply_bytes};
 ghost use Rattle.sheet.specs.Words.{word_bytes};
 
 use crate::pieces::put_line;
 use course::Word;
-use text::append;
+use slots::Refusal;
+use text::Page;
 
 // The word of a reply.
-#[tactic(auto, using(crate::proofs::Putting::putting), unfolding(crate::specs::Words::word_bytes))]
-fn put_word(dst: &mut [u8], at: usize, word: Word) -> usize
-    requires { at + length (word_bytes word) ≤ length dst.old }
-    ensures { (result ≡ at + length (word_bytes word)) × (dst.new ≡ put dst.old at (word_bytes word)) }
+#[tactic(auto, unfolding(crate::specs::Words::word_bytes, course::specs::Words::said_word))]
+fn bytes_of(word: Word) -> &'static [u8]
+    ensures { result.now ≡ word_bytes (said_word word) }
 {
     match word {
-        Word::None => at,
-        Word::Got => append(dst, at, b"got"),
-        Word::Blocked => append(dst, at, b"blocked"),
-        Word::Queued => append(dst, at, b"queued"),
-        Word::Committed => append(dst, at, b"committed"),
-        Word::Ran => append(dst, at, b"ran"),
-        Word::Failed => append(dst, at, b"failed"),
-        Word::Restarted => append(dst, at, b"restarted"),
+        Word::Got => b"got",
+        Word::Blocked => b"blocked",
+        Word::Queued => b"queued",
+        Word::Committed => b"committed",
+        Word::Ran => b"ran",
+        Word::Failed => b"failed",
+        Word::Restarted => b"restarted",
     }
 }
 
 // A space, the word or `no number`, and the end of the line.
-#[tactic(auto, using(crate::proofs::Putting::putting), unfolding(crate::specs::Listings::reply_bytes))]
-pub fn put_reply(dst: &mut [u8], at: usize, number: u32, word: Word) -> usize
-    requires { at + length (space ∷ line (reply_bytes number word)) ≤ length dst.old }
-    ensures { (result ≡ at + length (space ∷ line (reply_bytes number word))) × (dst.new ≡ put dst.old at (space ∷ line (reply_bytes number word))) }
+#[tactic(auto, using(crate::proofs::Putting::putting, slots::proofs::Answers::no_number), unfolding(crate::specs::Listings::reply_bytes, slots::specs::Refusals::number_in, table::specs::Answers::word_in))]
+pub fn put_reply(page: &mut Page, answer: Result<Word, Refusal>)
+    requires { HasRoom page.old (space ∷ line (reply_bytes (number_in answer) (word_in answer))) }
+    ensures { Adds page.old page.new (space ∷ line (reply_bytes (number_in answer) (word_in answer))) }
 {
-    if number != 0 {
-        return put_line(dst, at, b" no ", number);
+    match answer {
+        Ok(word) => {
+            page.put(b" ");
+            page.put(bytes_of(word));
+            page.put(b"\n");
+        }
+        Err(r) => put_line(page, b" no ", r.number()),
     }
-    let a = append(dst, at, b" ");
-    let b = put_word(dst, a, word);
-    append(dst, b, b"\n")
 }

@@ -1,19 +1,17 @@
 -- A shelf by the entry at its front, with no count of entries. `entries` gives the same at every count from the number of bytes on, since
--- an entry has bytes: so a shelf is empty, or damaged, or an entry with the shelf of the bytes behind it. The last part says this for a
--- turn of the code's loops, where s is what is left of the bytes and n what `entry_bytes` gave of it.
-use Prim.Native.Nat.{ℕ, zero, suc, ◌+◌, ◌-◌, ◌≤◌, ◌<◌}
+-- an entry has bytes: so a shelf is empty, or damaged, or an entry with the shelf of the bytes behind it.
+use Prim.Native.Nat.{ℕ, zero, suc, ◌+◌, ◌≤◌, ◌<◌}
 use native.Mathlib.Omega.{arith}
 use mathlib.Core.Path.{◌≡◌, refl, ap}
 use mathlib.Core.Bool.{true, false, cond, ◌&&◌}
 use mathlib.Core.List.{List, [], ◌∷◌}
-use lib.ListN.{length, get_or, take, drop, length-drop}
-use lib.Seq.{take_all}
+use lib.ListN.{length, get_or, drop, length-drop, length-take}
 use lib.Dec.{leb, eqb}
-use borrow.Author.Tests.{leb-true, eqb-true, le-leb, eq-eqb, ne_eqb}
+use borrow.Author.Tests.{leb-true, eqb-true, eqb-false, eq-eqb, ne_eqb}
 use Rattle.slots.proofs.Truth.{and_l, and_r, is_false, split}
 use Rattle.script.specs.Scripts.{head_bytes}
 use Rattle.script.specs.Frames.{version}
-use Rattle.shelf.specs.Shelves.{Shelf, nothing, damage, entry, number_bytes, entry_number, span, is_whole, frame_in, entry_bytes, entries, shelf}
+use Rattle.shelf.specs.Shelves.{Shelf, nothing, damage, entry, number_bytes, entry_number, span, is_whole, frame_in, entries, shelf, is_sound, find}
 
 -- ---- the entry at the front
 
@@ -35,14 +33,6 @@ whole s w =
       body = leb-true _ _ (and_r (h && k) _ w);
     }
 
-pub bytes_whole : (s : List ℕ) → Whole s → entry_bytes s ≡ span s
-unfolding entry_bytes is_whole
-bytes_whole s w = rw (le-leb _ _ w.head, eq-eqb _ _ w.known, le-leb _ _ w.body)
-
-pub bytes_none : (s : List ℕ) → (Whole s → ⊥) → entry_bytes s ≡ 0
-unfolding entry_bytes
-bytes_none s h = rw (is_false (λ w. h (whole s w)))
-
 span_least : (s : List ℕ) → number_bytes + head_bytes ≤ span s
 unfolding span
 span_least s = omega arith
@@ -59,7 +49,7 @@ enough (suc k) (suc m) s p q =
     ap (λ (r : Shelf). cond (eqb (length s) 0) nothing (cond (is_whole s) (entry (entry_number s) (frame_in s) r) damage))
     (enough k m t (simp length-drop (omega (arith, span_least s))) (simp length-drop (omega (arith, span_least s))))
 
-pub shelf-end : (s : List ℕ) → length s ≤ 0 → shelf s ≡ nothing
+shelf-end : (s : List ℕ) → length s ≤ 0 → shelf s ≡ nothing
 unfolding shelf entries
 shelf-end [] h = refl
 shelf-end (x ∷ s) h = absurd (omega arith)
@@ -78,36 +68,48 @@ shelf_entry (x ∷ s) w =
     rw (ne_eqb (length (x ∷ s)) 0 (λ q. omega arith), w)
     (ap (entry (entry_number (x ∷ s)) (frame_in (x ∷ s))) (enough (length s) (length t) t short (omega arith)))
 
--- ---- a turn of the loops
+-- ---- a turn of the loops over the bytes s that are left
 
--- the part that a loop goes on with, behind n bytes
-abbrev pub behind : ℕ → List ℕ → List ℕ
-behind n s = take (length s - n) (drop n s)
+module _ (s : List ℕ) where
+  pub sound_end : length s ≤ 0 → is_sound (shelf s) ≡ true
+  unfolding is_sound
+  sound_end h = rw (shelf-end s h)
 
-behind_is : (n : ℕ) (s : List ℕ) → behind n s ≡ drop n s
-behind_is n s = take_all (length s - n) (drop n s) (simp length-drop (omega arith))
+  module _ (n : ℕ) where
+    find_end : length s ≤ 0 → find n (shelf s) ≡ []
+    unfolding find
+    find_end h = rw (shelf-end s h)
 
--- there is an entry at the front, of n bytes
-pub record Turn (s : List ℕ) (n : ℕ) : Type 0 where
-  pub least : number_bytes + head_bytes ≤ n
-  pub fits : n ≤ length s
-  pub first : shelf s ≡ entry (entry_number s) (take (n - number_bytes) (drop number_bytes s)) (shelf (behind n s))
+  -- no entry at the front
+  module _ (none : is_whole s ≡ true → ⊥) where
+    pub sound_damage : 0 < length s → is_sound (shelf s) ≡ false
+    unfolding is_sound
+    sound_damage h = rw (shelf_damage s h (is_false none))
 
-whole_turn : (s : List ℕ) (n : ℕ) → is_whole s ≡ true → n ≡ span s → Turn s n
-whole_turn s n w e =
-    let l : number_bytes + head_bytes ≤ n = omega (arith, span_least s) in
-    let f : n ≤ length s = omega (arith, (whole s w).body) in
-    record {
-      least = l;
-      fits = f;
-      first = rw (behind_is n s, e) (shelf_entry s w);
-    }
+    pub none_found : (n : ℕ) → find n (shelf s) ≡ []
+    unfolding find
+    none_found n =
+        split (eqb (length s) 0) (λ e. find_end n (omega (arith, eqb-true (length s) 0 e)))
+        (λ e. rw (shelf_damage s (omega (arith, eqb-false (length s) 0 e)) (is_false none)))
 
-module _ (s : List ℕ) (n : ℕ) (called : n ≡ entry_bytes s) where
-  pub damaged : 0 < length s → n ≡ 0 → shelf s ≡ damage
-  unfolding entry_bytes
-  damaged l z = split (is_whole s) (λ w. absurd (omega (arith, rw w at called, span_least s))) (λ w. shelf_damage s l w)
+  -- an entry at the front
+  module _ (first : is_whole s ≡ true) where
+    pub sound_behind : is_sound (shelf s) ≡ is_sound (shelf (drop (span s) s))
+    unfolding is_sound
+    sound_behind = rw (shelf_entry s first)
 
-  pub turn : (n ≡ 0 → ⊥) → Turn s n
-  unfolding entry_bytes
-  turn h = split (is_whole s) (λ w. whole_turn s n w (rw w at called)) (λ w. absurd (h (rw w at called)))
+    pub found : (n : ℕ) → entry_number s ≡ n → find n (shelf s) ≡ frame_in s
+    unfolding find
+    found n e = rw (shelf_entry s first, eq-eqb (entry_number s) n e)
+
+    pub found_behind : (n : ℕ) → (entry_number s ≡ n → ⊥) → find n (shelf s) ≡ find n (shelf (drop (span s) s))
+    unfolding find
+    found_behind n h = rw (shelf_entry s first, ne_eqb (entry_number s) n h)
+
+    pub frame_there : 0 < length (frame_in s)
+    frame_there = simp (length-take, length-drop) (omega (arith, span_least s, (whole s first).body))
+
+    pub shorter : length (drop (span s) s) < length s
+    shorter = simp length-drop (omega (arith, span_least s, (whole s first).body))
+
+pub ruleset turns = (sound_end, sound_damage, sound_behind, none_found, found, found_behind, frame_there, shorter)

@@ -1,4 +1,3 @@
 pub mod Entries
 pub mod High
 pub mod Refused
-pub mod Both

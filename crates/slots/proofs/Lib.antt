@@ -10,3 +10,4 @@ pub mod Machine
 pub mod Every
 pub mod Owners
 pub mod Settled
+pub mod Answers

@@ -1,6 +1,6 @@
 -- The owner of each cell. That the list follows its rule, and that each slot owns sixteen cells, are tests that antt computes at every
--- entry (`Every`); an owner is below 64 because it is a remainder by 64. What `owner` answers is told apart by its two numbers: the
--- refusal is 0 for a slot and 10 for a cell that is too high.
+-- entry (`Every`); an owner is below 64 because it is a remainder by 64. What `owner` answers is told by its number and its
+-- slot.
 use Prim.Native.Nat.{ℕ, zero, suc, ◌+◌, ◌<◌, ◌≤◌}
 use mathlib.Core.Path.{◌≡◌, refl, sym, ap, ap₂, ◌∙◌}
 use mathlib.Core.Bool.{Bool, true, cond}
@@ -11,13 +11,14 @@ use lib.Dec.{ltb, eqb}
 use lib.ListN.{length, get_or, replicate, get_or-replicate}
 use borrow.Author.Tests.{eqb-true, ltb-true, ltb-false, le-leb, lt-leb}
 use Rattle.slots.specs.Sizes.{cells, slots}
-use Rattle.slots.specs.Refusals.{refusal}
+use Rattle.slots.specs.Refusals.{refusal, number_in, value_in}
 use Rattle.slots.specs.Sets.{tally, slot}
 use Rattle.slots.specs.Owners.{owner_of, Lists, Says, says, said, owner_refusal, owner_says, OwnersBelow, EachOwnsSixteen}
 use Rattle.slots.specs.declared.Slot.{Slot}
-use Rattle.slots.specs.declared.owning.Owned.{Owned}
-use Rattle.slots.specs.declared.owning.Owned.TheVariants.{By, TooHigh}
+use Rattle.std.specs.Prelude.{Result, Ok, Err}
+use Rattle.slots.specs.declared.refusals.Refusal.{Refusal}
 use Rattle.slots.proofs.Truth.{split}
+use Rattle.slots.proofs.Answers.{one_answer, no_number}
 use Rattle.slots.proofs.Every.{every, every_at}
 
 -- ---- what is said of a cell
@@ -34,24 +35,23 @@ says_high c h = rw (le-leb cells c h)
 by_not_high : (a b : ℕ) → says 0 a ≡ says 10 b → ⊥
 by_not_high a b e = let z : ◌≡◌ {A = ℕ} 0 10 = ap (λ (x : Says). x.number) e in omega arith
 
-pub said_one : (a b : Owned) → said a ≡ said b → a ≡ b
+pub said_one : (a b : Result Slot Refusal) → said a ≡ said b → a ≡ b
 unfolding said
-said_one (By s) (By t) e = ap (λ (x : Says). By (slot x.value)) e
-said_one (By s) TooHigh e = absurd (by_not_high s.0 0 e)
-said_one TooHigh (By t) e = absurd (by_not_high t.0 0 (sym e))
-said_one TooHigh TooHigh e = refl
+said_one a b e = one_answer (slot 0) a b (ap (λ (x : Says). x.number) e) (ap (λ (x : Says). slot x.value) e)
 
-pub owner_by : (c : ℕ) (s : Slot) → said (By s) ≡ owner_says c → (c < cells) × (s.0 ≡ owner_of c)
-unfolding said
+pub owner_by : (c : ℕ) (s : Slot) → said (Ok s) ≡ owner_says c → (c < cells) × (s.0 ≡ owner_of c)
+unfolding said number_in value_in
 owner_by c s e =
     split (ltb c cells)
     (λ l. let h : c < cells = ltb-true c cells l in (h, ap (λ (x : Says). x.value) (e ∙ says_by c h)))
     (λ l. absurd (by_not_high s.0 0 (e ∙ says_high c (ltb-false c cells l))))
 
-pub owner_high : (c : ℕ) → said TooHigh ≡ owner_says c → cells ≤ c
-unfolding said
-owner_high c e =
-    split (ltb c cells) (λ l. absurd (by_not_high (owner_of c) 0 (sym (e ∙ says_by c (ltb-true c cells l))))) (ltb-false c cells)
+pub owner_high : (c : ℕ) (r : Refusal) → said (Err r) ≡ owner_says c → cells ≤ c
+unfolding said number_in value_in
+owner_high c r e =
+    split (ltb c cells)
+    (λ l. absurd (no_number r (ap (λ (x : Says). x.number) (e ∙ says_by c (ltb-true c cells l)))))
+    (ltb-false c cells)
 
 -- ---- the list
 

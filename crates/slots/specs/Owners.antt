@@ -1,11 +1,11 @@
 -- 'Cells and who owns them': the rule of the owner list, and what `owner` answers.
-use Rattle.std.specs.Prelude.{◌≡◌, ℕ, ◌+◌, ◌*◌, ◌/◌, ◌%◌, ◌<◌, List, [], ◌∷◌, leb, eqb, get_or}
+use Rattle.std.specs.Prelude.{◌≡◌, ℕ, ◌+◌, ◌*◌, ◌/◌, ◌%◌, ◌<◌, List, [], ◌∷◌, leb, eqb, get_or, Result}
 use Rattle.slots.specs.Sizes.{cells, slots}
-use Rattle.slots.specs.Refusals.{Check, ◌when◌, refusal, granted}
-use Rattle.slots.specs.Sets.{tally}
+use Rattle.slots.specs.Refusals.{Check, ◌when◌, refusal, granted, number_in, value_in}
+use Rattle.slots.specs.Sets.{slot, tally}
 use Rattle.slots.specs.declared.Cell.{Cell}
-use Rattle.slots.specs.declared.owning.Owned.{Owned}
-use Rattle.slots.specs.declared.owning.Owned.TheVariants.{By, TooHigh}
+use Rattle.slots.specs.declared.Slot.{Slot}
+use Rattle.slots.specs.declared.refusals.Refusal.{Refusal}
 
 -- a number as the code's cell
 abbrev pub cell : ℕ → Cell
@@ -36,9 +36,8 @@ abbrev pub says : ℕ → ℕ → Says
 says n v = record { number = n; value = v }
 
 -- what each answer says
-unfoldable pub said : Owned → Says
-said (By s) = says 0 s.0
-said TooHigh = says 10 0
+unfoldable pub said : Result Slot Refusal → Says
+said a = says (number_in a) (value_in (slot 0) a).0
 
 -- 10, cell above 1,023
 abbrev pub owner_checks : ℕ → List Check

@@ -6,10 +6,12 @@
 
 mod owner_list;
 mod owning;
+mod refusals;
 mod set;
 
 pub use owner_list::OwnerList;
-pub use owning::{Owned, all_owners, listed, owner};
+pub use owning::{all_owners, listed, owner};
+pub use refusals::{Refusal, number_in};
 pub use set::SlotSet;
 
 // How many cells and how many slots there are.
@@ -17,8 +19,8 @@ pub const CELLS: u32 = 1024;
 
 pub const SLOTS: u32 = 64;
 
-#[derive(Clone, Copy)]
+#[derive(Clone, Copy, Debug, PartialEq, Eq, Hash)]
 pub struct Cell(pub u32);
 
-#[derive(Clone, Copy)]
+#[derive(Clone, Copy, Debug, PartialEq, Eq, Hash)]
 pub struct Slot(pub u32);

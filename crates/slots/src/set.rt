@@ -7,7 +7,7 @@ ghost use Rattle.slots.specs.Sets.{none, has, adding, removing, above, union, di
 use crate::{SLOTS, Slot};
 
 // One binary digit for each slot.
-#[derive(Clone, Copy)]
+#[derive(Clone, Copy, Debug, Default, PartialEq, Eq, Hash)]
 pub struct SlotSet(pub u64);
 
 impl SlotSet {
@@ -22,11 +22,7 @@ impl SlotSet {
     pub fn has(self, s: Slot) -> bool
         ensures { result ≡ has self s.0 }
     {
-        if s.0 < SLOTS {
-            self.0 >> s.0 & 1 == 1
-        } else {
-            false
-        }
+        s.0 < SLOTS && self.0 >> s.0 & 1 == 1
     }
 
     pub fn with(self, s: Slot) -> SlotSet
@@ -81,12 +77,12 @@ impl SlotSet {
     pub fn count(self) -> u32
         ensures { result ≡ size self }
     {
-        u64::count_ones(self.0)
+        self.0.count_ones()
     }
 
     pub fn smallest(self) -> Slot
         ensures { result ≡ slot (smallest self) }
     {
-        Slot(u64::trailing_zeros(self.0))
+        Slot(self.0.trailing_zeros())
     }
 }

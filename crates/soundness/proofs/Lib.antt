@@ -1,3 +1,4 @@
 pub mod Bounds
+pub mod ByElement
 pub mod ByPhase
 pub mod Alike

@@ -3,8 +3,7 @@ ghost use Rattle.std.specs.Prelude.{◌≡◌};
 ghost use Rattle.slots.specs.Owners.{owner_of, listed};
 ghost use Rattle.soundness.specs.Tests.{phase_test, sound_test};
 
-use crate::open::open_sound;
-use course::want_of;
+use crate::open::{open_sound, wanted};
 use rule_one::slots_sound;
 use rule_six::{blank_rule, ended_rule};
 use seats::{Phase, SEATS, Seat, Table};
@@ -12,41 +11,30 @@ use slots::{OwnerList, Slot, SlotSet, all_owners};
 
 // A seat that holds `held`: whether it waits at all, and whether for the slot it wants.
 #[tactic(auto, unfolding(crate::specs::Tests::phase_test))]
-pub fn seat_sound(z: Seat, held: SlotSet, queued: bool, here: bool, owners: &OwnerList) -> bool
-    ensures { result ≡ phase_test (listed owners.now) z.phase z held queued here }
+pub fn seat_sound(z: &Seat, held: SlotSet, queued: bool, here: bool, owners: &OwnerList) -> bool
+    ensures { result ≡ phase_test (listed owners.now) z.now.phase z.now held queued here }
 {
-    let p = z.phase;
-    match p {
+    match z.phase {
         Phase::Blank => blank_rule(z, held, queued),
         Phase::Open => open_sound(z, held, queued, here, owners),
-        Phase::Committed => ended_rule(z, held, queued),
-        Phase::Failed => ended_rule(z, held, queued),
+        Phase::Committed | Phase::Failed => ended_rule(z, held, queued),
     }
 }
 
-pub fn sound(t: Table) -> bool
-    ensures { result ≡ sound_test owner_of t }
+pub fn sound(t: &Table) -> bool
+    ensures { result ≡ sound_test owner_of t.now }
 {
-    let slots = t.slots;
-    let u = slots_sound(slots);
-    if !u.fine {
+    let Some(free) = slots_sound(&t.slots) else {
         return false;
-    }
-    let free = u.seats;
+    };
     let owners = all_owners();
-    let mut i: u8 = 0;
-    while i < SEATS as u8 {
-        let k = i as usize;
-        let z = t.seats[k];
-        let queued = !free.has(Slot(i as u32));
-        let mut here = false;
-        if queued {
-            here = slots.waits(i, want_of(z, &owners).slot());
-        }
-        if !seat_sound(z, slots.held[k], queued, here, &owners) {
+    for i in 0..SEATS as u8 {
+        let z = &t.seats[usize::from(i)];
+        let queued = !free.has(Slot(u32::from(i)));
+        let here = queued && t.slots.waits(i, wanted(z, &owners));
+        if !seat_sound(z, t.slots.held_by(i), queued, here, &owners) {
             return false;
         }
-        i += 1;
     }
     true
 }

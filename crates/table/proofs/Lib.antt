@@ -1,3 +1,3 @@
 pub mod Fitting
-pub mod Openings
 pub mod Steppings
+pub mod Told

@@ -1,64 +1,36 @@
--- The number that a step is refused with, one check after the other: the first that applies gives it. A refused step leaves the table and the
--- image as they came; one that is not refused stores the seat and the slot table of its turn, which is what `moved_by` says, since a turn
--- depends on the owners of the 1,024 cells alone.
-use Prim.Native.Nat.{ℕ, ◌<◌}
-use mathlib.Core.Path.{◌≡◌, ap, ◌∙◌}
-use mathlib.Core.Bool.{true, false, not}
-use mathlib.Core.List.{List, []}
-use lib.Dec.{leb, eqb}
-use lib.ListN.{length, set}
-use borrow.Author.Tests.{ne_eqb}
+-- A step that no check refuses stores the seat and the slot table of its turn, and changes the image as its turn does. That is what
+-- `moved_by` and `image_by` say, since a turn depends on the owners of the 1,024 cells alone.
+use Rattle.std.proofs.Common.{◌≡◌, ℕ, ◌<◌, true, List, Ok, length, set, ap, ◌∙◌}
+use borrow.Author.Tests.{eq-eqb, lt-leb}
 use Rattle.slots.specs.Sizes.{cells}
-use Rattle.slots.proofs.Checks.{none, applies, passed}
+use Rattle.slots.specs.Refusals.{refusal, number_in}
+use Rattle.seats.specs.declared.seat.Seat.{Seat}
+use Rattle.seats.specs.declared.slot_table.SlotTable.{SlotTable}
 use Rattle.seats.specs.declared.table.Table.{Table}
 use Rattle.seats.specs.Queues.{seats, waits_in}
 use Rattle.seats.specs.SlotTables.{held_by, queue_of, owned}
 use Rattle.seats.specs.Seats.{is_open}
 use Rattle.seats.specs.Tables.{seat_at}
-use Rattle.course.specs.declared.turns.Turn.{Turn}
+use Rattle.course.specs.declared.cases.Word as reply
 use Rattle.course.specs.declared.wants.Want.{Want}
 use Rattle.course.specs.Wants.{slot_of}
+use Rattle.course.specs.Words.{said_word}
 use Rattle.course.specs.Cases.{case_for}
-use Rattle.course.specs.Steps.{case_in, turn_of, image_after}
+use Rattle.course.specs.Steps.{Turn, turn, case_in, turn_of, image_after}
 use Rattle.course.proofs.Alike.{want_alike}
 use Rattle.soundness.specs.Tests.{sound_test}
-use Rattle.table.specs.declared.stepping.Stepped.{Stepped}
-use Rattle.table.specs.Calls.{not_stepped, case_of, moved_by, image_by, step_refusal, step_call, step_image}
+use Rattle.table.specs.Answers.{Stepped, said_stepped, word_in}
+use Rattle.table.specs.Calls.{case_of, moved_by, image_by, step_refusal, step_call, step_image}
 
-module _ (own : ℕ → ℕ) (t : Table) (n i : ℕ) where
-  pub unsound : sound_test own t ≡ false → step_refusal own t n i ≡ 1
-  unfolding step_refusal
-  unsound e = applies 1 _ (ap not e)
-
-  module _ (s : sound_test own t ≡ true) where
-    pub no_image : eqb n cells ≡ false → step_refusal own t n i ≡ 2
-    unfolding step_refusal
-    no_image e = passed 1 _ (ap not s) ∙ applies 2 _ (ap not e)
-
-    module _ (m : eqb n cells ≡ true) where
-      pub no_seat_lem : leb seats i ≡ true → step_refusal own t n i ≡ 3
-      unfolding step_refusal
-      no_seat_lem e = passed 1 _ (ap not s) ∙ passed 2 _ (ap not m) ∙ applies 3 _ e
-
-      module _ (l : leb seats i ≡ false) where
-        pub not_open : is_open (seat_at t i).phase ≡ false → step_refusal own t n i ≡ 5
-        unfolding step_refusal
-        not_open e = passed 1 _ (ap not s) ∙ passed 2 _ (ap not m) ∙ passed 3 _ l ∙ applies 5 [] (ap not e)
-
-        pub moves : is_open (seat_at t i).phase ≡ true → step_refusal own t n i ≡ 0
-        unfolding step_refusal
-        moves e = passed 1 _ (ap not s) ∙ passed 2 _ (ap not m) ∙ passed 3 _ l ∙ passed 5 [] (ap not e) ∙ none
-
--- ---- the answer
-
-abbrev pub answer : Turn → Table → ℕ → Stepped
+abbrev answer : Turn → Table → ℕ → Stepped
 answer r t i = record { number = 0; word = r.word; table = record { seats = set t.seats i r.seat; slots = r.slots } }
 
 module _ (own : ℕ → ℕ) (t : Table) (img : List ℕ) (i : ℕ) where
-  pub refused : {k : ℕ} → step_refusal own t (length img) i ≡ k → (k ≡ 0 → ⊥)
-      → (not_stepped k t ≡ step_call own t img i) × (img ≡ step_image own t img i)
-  unfolding step_call step_image
-  refused {k} e h = (rw (e, ne_eqb k 0 h), rw (e, ne_eqb k 0 h))
+  -- no check applies
+  granted_lem : sound_test own t ≡ true → length img ≡ cells → i < seats → is_open (seat_at t i).phase ≡ true
+      → step_refusal own t (length img) i ≡ 0
+  unfolding step_refusal refusal
+  granted_lem s n l o = rw (s, eq-eqb (length img) cells n, lt-leb seats i l, o)
 
   case_alike : (own' : ℕ → ℕ) → ((c : ℕ) → c < cells → own' c ≡ own c) → case_in own' (seat_at t i) t.slots i ≡ case_of own t i
   unfolding case_of
@@ -66,8 +38,17 @@ module _ (own : ℕ → ℕ) (t : Table) (img : List ℕ) (i : ℕ) where
       ap (λ (w : Want). case_for w (held_by t.slots i) (owned t.slots) (waits_in (queue_of t.slots (slot_of w)) i))
       (want_alike own' own h (seat_at t i))
 
-  pub stepped : (own' : ℕ → ℕ) → ((c : ℕ) → c < cells → own' c ≡ own c) → step_refusal own t (length img) i ≡ 0
-      → (answer (turn_of own' (seat_at t i) t.slots img i) t i ≡ step_call own t img i)
-      × (image_after (case_in own' (seat_at t i) t.slots i) (seat_at t i).run img ≡ step_image own t img i)
-  unfolding step_call step_image moved_by image_by turn_of
-  stepped own' h e = (rw (e, case_alike own' h), rw (e, case_alike own' h))
+  module _ (own' : ℕ → ℕ) (h : (c : ℕ) → c < cells → own' c ≡ own c) (s : sound_test own t ≡ true) (n : length img ≡ cells) (l : i < seats)
+      (o : is_open (seat_at t i).phase ≡ true) where
+    told : answer (turn_of own' (seat_at t i) t.slots img i) t i ≡ step_call own t img i
+    unfolding step_call moved_by turn_of
+    told = rw (granted_lem s n l o, case_alike own' h)
+
+    pub stepped : (w : reply.Word) (z : Seat) (q : SlotTable) → turn (said_word w) z q ≡ turn_of own' (seat_at t i) t.slots img i
+        → said_stepped (Ok w) (record { seats = set t.seats i z; slots = q }) ≡ step_call own t img i
+    unfolding said_stepped number_in word_in
+    stepped w z q e = ap (λ (x : Turn). answer x t i) e ∙ told
+
+    pub written : image_after (case_in own' (seat_at t i) t.slots i) (seat_at t i).run img ≡ step_image own t img i
+    unfolding step_image image_by
+    written = rw (granted_lem s n l o, case_alike own' h)

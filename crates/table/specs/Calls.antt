@@ -4,7 +4,6 @@ use Rattle.slots.specs.Sizes.{cells, slots}
 use Rattle.slots.specs.Refusals.{Check, ◌when◌, refusal, granted}
 use Rattle.slots.specs.Sets.{has, none, first}
 use Rattle.script.specs.declared.code.Script.{Script}
-use Rattle.script.specs.Scripts.{registers}
 use Rattle.script.specs.Frames.{read_checks, read_script}
 use Rattle.seats.specs.declared.queue.Queue.{Queue}
 use Rattle.seats.specs.declared.seat.Phase.{Phase}
@@ -17,16 +16,12 @@ use Rattle.seats.specs.SlotTables.{held_by, queue_of}
 use Rattle.seats.specs.Seats.{is_open, opened_run, no_tally}
 use Rattle.seats.specs.Tables.{seat_at}
 use Rattle.course.specs.declared.cases.Case.{Case}
-use Rattle.course.specs.declared.cases.Word.{Word}
-use Rattle.course.specs.declared.cases.Word.TheVariants as word
+use Rattle.course.specs.Words.{Word}
+use Rattle.course.specs.Words as word
 use Rattle.course.specs.Cases.{word_of}
 use Rattle.course.specs.Steps.{case_in, seat_after, slots_after, image_after}
 use Rattle.soundness.specs.Tests.{sound_test}
-use Rattle.table.specs.declared.opening.Opened.{Opened}
-use Rattle.table.specs.declared.stepping.Stepped.{Stepped}
-use Rattle.table.specs.declared.asking.Report.{Report}
-use Rattle.table.specs.declared.asking.SlotView.{SlotView}
-use Rattle.table.specs.declared.asking.CellRead.{CellRead}
+use Rattle.table.specs.Answers.{Opened, Stepped, Report, no_report, SlotView, no_view, CellRead}
 
 abbrev pub with_seat : Table → ℕ → Seat → Table
 with_seat t i z = record { seats = set t.seats i z; slots = t.slots }
@@ -41,10 +36,6 @@ opened_seat s reading = record { phase = Open; script = s; run = opened_run read
 pub record Moved : Type 0 where
   pub word : Word
   pub table : Table
-
--- the answer to a refused step
-abbrev pub not_stepped : ℕ → Table → Stepped
-not_stepped n t = record { number = n; word = word.None; table = t }
 
 module _ (own : ℕ → ℕ) (t : Table) where
   abbrev pub open_checks : ℕ → List ℕ → List Check
@@ -110,10 +101,6 @@ is_ended Open = false
 is_ended Committed = true
 is_ended Failed = true
 
--- the zeros of a report: no outcome
-abbrev pub no_report : ℕ → Report
-no_report n = record { number = n; outcome = Blank; regs = replicate registers 0; tally = no_tally }
-
 abbrev pub report_of : Seat → Report
 report_of z = record { number = 0; outcome = z.phase; regs = z.run.regs; tally = z.tally }
 
@@ -137,8 +124,9 @@ holder_of t s = first (λ i. has (held_by t i) s) seats
 unfoldable pub line_up : Queue → List ℕ
 line_up q = entries q ++ replicate (seats - length (entries q)) 0
 
-abbrev pub no_view : ℕ → SlotView
-no_view n = record { number = n; owned = false; owner = 0; queue = replicate seats 0; len = 0 }
+-- the queue with nothing else behind its length
+abbrev pub lined_up : Queue → Queue
+lined_up q = record { seats = line_up q; len = q.len }
 
 abbrev pub view_of : SlotTable → ℕ → SlotView
 view_of t s =

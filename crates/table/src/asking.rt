@@ -1,188 +1,96 @@
 // What can be asked: the result of an ended seat, a slot's owner and queue, a cell of the image.
-ghost use Rattle.std.specs.Prelude.{◌≡◌, ◌<◌};
+ghost use Rattle.std.specs.Prelude.{◌≡◌, ◌<◌, IfSome};
 ghost use Rattle.slots.specs.Owners.{owner_of};
-ghost use Rattle.slots.specs.Sizes.{slots};
-ghost use Rattle.seats.specs.SlotTables.{queue_of};
-ghost use Rattle.table.specs.Calls.{is_ended, no_report, holder_of, line_up, no_view, result_call, slot_view_call, cell_read_call};
+ghost use Rattle.seats.specs.Queues.{seats};
+ghost use Rattle.table.specs.Answers.{said_report, said_view, said_cell, said_holder};
+ghost use Rattle.table.specs.Calls.{is_ended, holder_of, lined_up, result_call, slot_view_call, cell_read_call};
 
-use script::REGISTERS;
-use seats::{Phase, SEATS, SlotTable, Table, Tally};
-use slots::{CELLS, Cell, SLOTS, Slot};
+use script::Registers;
+use seats::{Phase, Queue, SEATS, SlotTable, Table, Tally};
+use slots::{CELLS, Cell, Refusal, Slot};
 
-// Outcome, registers and counts of an ended seat, or a refusal's number and zeros; the zero of an
-// outcome is `Blank`.
-#[derive(Clone, Copy)]
+// Outcome, registers and counts of an ended seat.
+#[derive(Clone, Copy, Debug, PartialEq, Eq)]
 pub struct Report {
-    pub number: u32,
     pub outcome: Phase,
-    pub regs: [u32; REGISTERS],
+    pub regs: Registers,
     pub tally: Tally,
 }
 
-// Whether the slot is owned and by which seat, and the seats that wait for it in their order; zeros
-// behind them.
-#[derive(Clone, Copy)]
+// The seat that owns the slot, if any, and the queue of those who wait for it; zeros behind them.
+#[derive(Clone, Copy, Debug, PartialEq, Eq)]
 pub struct SlotView {
-    pub number: u32,
-    pub owned: bool,
-    pub owner: u8,
-    pub queue: [u8; SEATS],
-    pub len: usize,
-}
-
-#[derive(Clone, Copy)]
-pub struct CellRead {
-    pub number: u32,
-    pub value: u32,
+    pub owner: Option<u8>,
+    pub queue: Queue,
 }
 
 #[tactic(auto, unfolding(crate::specs::Calls::is_ended))]
 fn is_ended(p: Phase) -> bool
     ensures { result ≡ is_ended p }
 {
-    match p {
-        Phase::Blank => false,
-        Phase::Open => false,
-        Phase::Committed => true,
-        Phase::Failed => true,
-    }
+    matches!(p, Phase::Committed | Phase::Failed)
 }
 
-fn no_report(number: u32) -> Report
-    ensures { result ≡ no_report number }
-{
-    Report {
-        number,
-        outcome: Phase::Blank,
-        regs: [0; REGISTERS],
-        tally: Tally::NONE,
-    }
-}
-
-#[tactic(auto, unfolding(crate::specs::Calls::result_call, crate::specs::Calls::result_refusal, slots::specs::Refusals::refusal))]
-pub fn result(table: Table, seat: u32) -> Report
-    ensures { result ≡ result_call owner_of table seat }
+#[tactic(auto, unfolding(crate::specs::Calls::result_call, crate::specs::Calls::result_refusal, slots::specs::Refusals::refusal, slots::specs::Refusals::number_of, crate::specs::Answers::said_report))]
+pub fn result(table: &Table, seat: u32) -> Result<Report, Refusal>
+    ensures { said_report result ≡ result_call owner_of table.now seat }
 {
     if !soundness::sound(table) {
-        return no_report(1);
+        return Err(Refusal::TableNotSound);
     }
-    if SEATS as u32 <= seat {
-        return no_report(3);
+    let Some(z) = table.seats.get(seat as usize) else {
+        return Err(Refusal::SeatTooHigh);
+    };
+    if !is_ended(z.phase) {
+        return Err(Refusal::SeatNotEnded);
     }
-    let i = seat as usize;
-    let z = table.seats[i];
-    let p = z.phase;
-    if !is_ended(p) {
-        return no_report(6);
-    }
-    let regs = z.run.regs;
-    let tally = z.tally;
-    Report {
-        number: 0,
-        outcome: p,
-        regs,
-        tally,
-    }
+    Ok(Report {
+        outcome: z.phase,
+        regs: z.run.regs,
+        tally: z.tally,
+    })
 }
 
-// The seat that holds s, and 16 where none does.
-fn holder(t: SlotTable, s: Slot) -> u8
-    ensures { result ≡ holder_of t s.0 }
+// The seat that holds s.
+fn holder(t: &SlotTable, s: Slot) -> Option<u8>
+    ensures first { said_holder result ≡ holder_of t.now s.0 }
+    ensures seat { IfSome result (λ i. i < seats) }
 {
-    let mut i: u8 = 0;
-    while i < SEATS as u8 {
-        let h = t.held[i as usize];
-        if h.has(s) {
-            return i;
-        }
-        i += 1;
-    }
-    i
+    (0..SEATS as u8).find(|i| t.held_by(*i).has(s))
 }
 
-// The seats that wait for s, in front of zeros.
-fn line_up(t: SlotTable, s: Slot) -> [u8; SEATS]
-    requires { s.0 < slots }
-    ensures { result ≡ line_up (queue_of t s.0) }
+// Those who wait, and zeros behind them.
+fn lined_up(q: &Queue) -> Queue
+    ensures { result ≡ lined_up q.now }
 {
-    let k = s.0 as usize;
-    let q = t.queues[k];
-    let mut a = [0; SEATS];
-    let mut i = 0;
-    while i < SEATS {
-        if i < q.len {
-            a[i] = q.seats[i];
-        }
-        i += 1;
-    }
-    a
+    let waiting = q.entries();
+    let mut seats = [0; SEATS];
+    seats[..waiting.len()].copy_from_slice(waiting);
+    Queue { seats, len: q.len }
 }
 
-fn no_view(number: u32) -> SlotView
-    ensures { result ≡ no_view number }
-{
-    SlotView {
-        number,
-        owned: false,
-        owner: 0,
-        queue: [0; SEATS],
-        len: 0,
-    }
-}
-
-#[tactic(auto, unfolding(crate::specs::Calls::slot_view_call, crate::specs::Calls::view_refusal, slots::specs::Refusals::refusal))]
-pub fn slot_view(table: Table, s: Slot) -> SlotView
-    ensures { result ≡ slot_view_call owner_of table s.0 }
+#[tactic(auto, unfolding(crate::specs::Calls::slot_view_call, crate::specs::Calls::view_refusal, slots::specs::Refusals::refusal, slots::specs::Refusals::number_of, crate::specs::Answers::said_view))]
+pub fn slot_view(table: &Table, s: Slot) -> Result<SlotView, Refusal>
+    ensures { said_view result ≡ slot_view_call owner_of table.now s.0 }
 {
     if !soundness::sound(table) {
-        return no_view(1);
+        return Err(Refusal::TableNotSound);
     }
-    if SLOTS <= s.0 {
-        return no_view(11);
-    }
-    let t = table.slots;
-    let i = holder(t, s);
-    let k = s.0 as usize;
-    let len = t.queues[k].len;
-    let queue = line_up(t, s);
-    if i < SEATS as u8 {
-        SlotView {
-            number: 0,
-            owned: true,
-            owner: i,
-            queue,
-            len,
-        }
-    } else {
-        SlotView {
-            number: 0,
-            owned: false,
-            owner: 0,
-            queue,
-            len,
-        }
-    }
+    let Some(q) = table.slots.queues.get(s.0 as usize) else {
+        return Err(Refusal::SlotTooHigh);
+    };
+    Ok(SlotView {
+        owner: holder(&table.slots, s),
+        queue: lined_up(q),
+    })
 }
 
-#[tactic(auto, unfolding(crate::specs::Calls::cell_read_call, crate::specs::Calls::cell_refusal, slots::specs::Refusals::refusal))]
-pub fn cell_read(image: &[u32], c: Cell) -> CellRead
-    ensures { result ≡ cell_read_call image.now c.0 }
+#[tactic(auto, unfolding(crate::specs::Calls::cell_read_call, crate::specs::Calls::cell_refusal, slots::specs::Refusals::refusal, slots::specs::Refusals::number_of, slots::specs::Refusals::number_in, slots::specs::Refusals::value_in, crate::specs::Answers::said_cell))]
+pub fn cell_read(image: &[u32], c: Cell) -> Result<u32, Refusal>
+    ensures { said_cell result ≡ cell_read_call image.now c.0 }
 {
     if image.len() != CELLS as usize {
-        return CellRead {
-            number: 2,
-            value: 0,
-        };
+        return Err(Refusal::ImageNotWhole);
     }
-    if CELLS <= c.0 {
-        return CellRead {
-            number: 10,
-            value: 0,
-        };
-    }
-    let i = c.0 as usize;
-    CellRead {
-        number: 0,
-        value: image[i],
-    }
+    image.get(c.0 as usize).copied().ok_or(Refusal::CellTooHigh)
 }

@@ -5,6 +5,6 @@ mod asking;
 mod opening;
 mod stepping;
 
-pub use asking::{CellRead, Report, SlotView, cell_read, result, slot_view};
-pub use opening::{Opened, open, sound_open};
-pub use stepping::{Stepped, sound_step, step};
+pub use asking::{Report, SlotView, cell_read, result, slot_view};
+pub use opening::{open, sound_open};
+pub use stepping::{sound_step, step};

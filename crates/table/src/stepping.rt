@@ -2,70 +2,49 @@
 ghost use Rattle.std.specs.Prelude.{◌≡◌, true};
 ghost use Rattle.slots.specs.Owners.{owner_of};
 ghost use Rattle.soundness.specs.Tests.{sound_test};
-ghost use Rattle.table.specs.Calls.{not_stepped, step_call, step_image};
+ghost use Rattle.table.specs.Answers.{said_stepped};
+ghost use Rattle.table.specs.Calls.{step_call, step_image};
 
 use course::{Word, take_turn};
-use seats::{SEATS, Table};
-use slots::{CELLS, all_owners};
+use seats::Table;
+use slots::{CELLS, Refusal, all_owners};
 
-// The reply and the table after a step, or a refusal's number, no word and the table as it came.
-#[derive(Clone, Copy)]
-pub struct Stepped {
-    pub number: u32,
-    pub word: Word,
-    pub table: Table,
-}
-
-fn not_stepped(number: u32, table: Table) -> Stepped
-    ensures { result ≡ not_stepped number table }
-{
-    Stepped {
-        number,
-        word: Word::None,
-        table,
-    }
-}
-
-// A step of a table that is known to be sound, which is not tested again. What is indexed is a copy,
-// `t`: so the table goes on to the callees as it lies, and is copied for none of them.
-pub fn sound_step(table: Table, image: &mut [u32], seat: u32) -> Stepped
-    requires { sound_test owner_of table ≡ true }
-    ensures { (result ≡ step_call owner_of table image.old seat) × (image.new ≡ step_image owner_of table image.old seat) }
+// A step of a table that is known to be sound, which is not tested again.
+#[tactic(auto, unfolding(crate::specs::Calls::step_call, crate::specs::Calls::step_image, crate::specs::Calls::step_refusal, slots::specs::Refusals::refusal, slots::specs::Refusals::number_of, slots::specs::Refusals::number_in, crate::specs::Answers::word_in, crate::specs::Answers::said_stepped))]
+pub fn sound_step(table: &mut Table, image: &mut [u32], seat: u32) -> Result<Word, Refusal>
+    requires { sound_test owner_of table.old ≡ true }
+    ensures answer { said_stepped result table.new ≡ step_call owner_of table.old image.old seat }
+    ensures image { image.new ≡ step_image owner_of table.old image.old seat }
 {
     if image.len() != CELLS as usize {
-        return not_stepped(2, table);
+        return Err(Refusal::ImageNotWhole);
     }
-    if SEATS as u32 <= seat {
-        return not_stepped(3, table);
-    }
-    let mut t = table;
+    // Not by `get_mut`, as in `sound_open`.
     let i = seat as usize;
-    let z = t.seats[i];
-    let p = z.phase;
-    if !p.is_open() {
-        return not_stepped(5, table);
+    let Some(z) = table.seats.get(i) else {
+        return Err(Refusal::SeatTooHigh);
+    };
+    if !z.phase.is_open() {
+        return Err(Refusal::SeatNotOpen);
     }
-    let slots = t.slots;
     let owners = all_owners();
-    let turn = take_turn(z, slots, image, seat as u8, &owners);
-    let word = turn.word;
-    let y = turn.seat;
-    t.seats[i] = y;
-    let after = turn.slots;
-    t.slots = after;
-    Stepped {
-        number: 0,
-        word,
-        table: t,
-    }
+    Ok(take_turn(
+        &mut table.seats[i],
+        &mut table.slots,
+        image,
+        seat as u8,
+        &owners,
+    ))
 }
 
-pub fn step(table: Table, image: &mut [u32], seat: u32) -> Stepped
-    ensures { (result ≡ step_call owner_of table image.old seat) × (image.new ≡ step_image owner_of table image.old seat) }
+// A refusal leaves the table and the image as they came.
+#[tactic(auto, unfolding(crate::specs::Calls::step_call, crate::specs::Calls::step_image, crate::specs::Calls::step_refusal, slots::specs::Refusals::refusal, slots::specs::Refusals::number_of, slots::specs::Refusals::number_in, crate::specs::Answers::word_in, crate::specs::Answers::said_stepped))]
+pub fn step(table: &mut Table, image: &mut [u32], seat: u32) -> Result<Word, Refusal>
+    ensures answer { said_stepped result table.new ≡ step_call owner_of table.old image.old seat }
+    ensures image { image.new ≡ step_image owner_of table.old image.old seat }
 {
-    if soundness::sound(table) {
-        sound_step(table, image, seat)
-    } else {
-        not_stepped(1, table)
+    if !soundness::sound(table) {
+        return Err(Refusal::TableNotSound);
     }
+    sound_step(table, image, seat)
 }

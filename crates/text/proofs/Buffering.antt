@@ -1,17 +1,15 @@
 -- What is put into a buffer. Where there is room the buffer is the bytes before the place, what is put, and the bytes behind, so its
--- length stays; where there is none it is unchanged. A copy that goes byte by byte is the same buffer once all bytes are copied.
+-- length stays; where there is none it is unchanged.
 use Prim.Native.Nat.{ℕ, ◌+◌, ◌≤◌, ◌<◌}
 use mathlib.Core.Path.{◌≡◌, refl, sym, ap, ◌∙◌}
 use mathlib.Core.Bool.{Bool, true, false}
 use mathlib.Core.List.{List, ◌++◌, append_assoc}
 use native.Mathlib.Omega.{arith}
-use native.Mathlib.Numerals.{add-one}
-use lib.ListN.{length, get_or, take, drop, set}
-use lib.Seq.{take-length, paste, paste-zero, paste-suc, length-paste, take-paste, drop-paste}
+use lib.ListN.{length, take, drop}
+use lib.Seq.{take-length, paste, length-paste, take-paste, drop-paste}
 use lib.Dec.{leb}
 use borrow.Author.Tests.{le-leb, lt-leb, leb-true, leb-false}
-use Rattle.std.proofs.lemmas.Grind.{common_steps}
-use Rattle.text.specs.Buffers.{fits, put, next}
+use Rattle.text.specs.Pages.{fits, put, next}
 
 module _ (d : List ℕ) (at : ℕ) (bs : List ℕ) where
   pub no_room : length d < at + length bs → (at ≡ next d at bs) × (d ≡ put d at bs)
@@ -23,8 +21,7 @@ module _ (d : List ℕ) (at : ℕ) (bs : List ℕ) where
     unfolding next fits
     next_fits = rw (le-leb (at + length bs) (length d) h)
 
-    -- all of them copied
-    pub put_copied : put d at bs ≡ paste d at bs (length bs)
+    put_copied : put d at bs ≡ paste d at bs (length bs)
     unfolding put fits
     put_copied =
         rw (le-leb (at + length bs) (length d) h)
@@ -46,12 +43,3 @@ module _ (d : List ℕ) (at : ℕ) (bs : List ℕ) where
       go true e =
           let h = leb-true (at + length bs) (length d) e in ap length (put_copied h) ∙ length-paste d at bs (length bs) h (omega arith)
       go false e = ap length (sym (no_room (leb-false (at + length bs) (length d) e)).1)
-
--- one byte more of a copy
-pub copied_more : (d : List ℕ) (at : ℕ) (bs : List ℕ) (j : ℕ) {e : List ℕ} → j < length bs → at + j < length d → e ≡ paste d at bs j
-    → set e (at + j) (get_or bs j 0) ≡ paste d at bs (j + 1)
-copied_more d at bs j h r q =
-    ap (λ (x : List ℕ). set x (at + j) (get_or bs j 0)) q ∙ paste-suc d at bs j 0 r h ∙ ap (paste d at bs) (sym (add-one j))
-
--- what a copy byte by byte needs
-pub ruleset copying = (put_copied, paste-zero, copied_more, common_steps)

@@ -1,16 +1,17 @@
--- Hex is read two at a time. The test of the bytes from the place i on is that of two of them and of those from i + 2 on; the bytes they
--- stand for are one for each two, and the i-th stands at 2 * i. So what passes the test decodes byte by byte, with nothing lost.
-use Prim.Native.Nat.{ℕ, zero, suc, ◌+◌, ◌-◌, ◌*◌, ◌/◌, ◌≤◌, ◌<◌}
+-- Hex is tested byte by byte and decoded in pairs. The test is that each byte is a nibble and their number is even, by induction on the pairs;
+-- the bytes that s stands for are one for each pair, and the k-th stands at 2 * k. So what passes the test decodes pair by pair, with nothing lost.
+use Prim.Native.Nat.{ℕ, zero, suc, ◌+◌, ◌-◌, ◌*◌, ◌/◌, ◌%◌, ◌≤◌, ◌<◌}
 use mathlib.Core.Path.{◌≡◌, refl, sym, ap, ap₂, ◌∙◌}
 use mathlib.Core.Logic.{◌⊎◌, inl, inr, ⊎_elim}
 use mathlib.Core.Bool.{Bool, true, false, false≢true, ◌&&◌, ◌||◌}
-use mathlib.Core.List.{List, [], ◌∷◌}
+use mathlib.Core.List.{List, [], ◌∷◌, ◌++◌}
 use native.Mathlib.Omega.{arith}
 use native.Mathlib.Numerals.{add-one}
-use lib.ListN.{length, get_or, drop, set, drop_of_length-le}
-use lib.Seq.{drop-cons, paste, paste-suc}
+use lib.ListN.{length, get_or, drop, set, length-append, length-drop, get_or-append}
+use lib.Seq.{drop-drop, drop_at, get_or-drop, paste, paste-suc}
 use lib.Dec.{ltb, leb, eqb}
-use borrow.Author.Tests.{le-leb, lt-ltb, le-ltb, leb-true, ltb-true, eqb-true, eqb-false}
+use borrow.Author.Tests.{le-leb, lt-ltb, le-ltb, leb-true, ltb-true, eq-eqb, ne_eqb}
+use Rattle.std.specs.List.{list_all}
 use Rattle.std.proofs.lemmas.Grind.{common_steps}
 use Rattle.text.specs.Hex.{is_numeral, is_letter, nibble, all_hex, hex_bytes}
 
@@ -59,29 +60,31 @@ module _ (b : ℕ) where
       (λ (w : (97 ≤ b) × (b < 103)). (rw (no_numeral h) (omega arith), omega arith))
       (range e)
 
--- ---- the test, from the place i on
+-- ---- the test, one byte after the other
 
-module _ (s : List ℕ) (i : ℕ) where
-  two : 1 < length s - i → drop i s ≡ get_or s i 0 ∷ get_or s (i + 1) 0 ∷ drop (i + 2) s
-  two h =
-      let e : suc (i + 1) ≡ i + 2 = omega arith in
-      let t : drop (i + 1) s ≡ get_or s (i + 1) 0 ∷ drop (i + 2) s =
-      drop-cons s (i + 1) 0 (omega arith) ∙ ap (λ (k : ℕ). get_or s (i + 1) 0 ∷ drop k s) e in
-      drop-cons s i 0 (omega arith) ∙ ap (λ (l : List ℕ). get_or s i 0 ∷ l) (ap (λ (k : ℕ). drop k s) (sym (add-one i)) ∙ t)
+abbrev is_even : List ℕ → Bool
+is_even s = eqb (length s % 2) 0
 
-  pub two_more : 1 < length s - i
-      → all_hex (drop i s) ≡ (is_nibble (get_or s i 0) && (is_nibble (get_or s (i + 1) 0) && all_hex (drop (i + 2) s)))
-  unfolding all_hex
-  two_more h = ap all_hex (two h)
+all_hex_even : (s : List ℕ) → all_hex s ≡ (is_even s && list_all is_nibble s)
+unfolding all_hex
+all_hex_even [] = refl
+all_hex_even (a ∷ []) = refl
+all_hex_even (a ∷ b ∷ s) =
+    let e : is_even (a ∷ b ∷ s) ≡ is_even s = ap (λ (r : ℕ). eqb r 0) (omega arith) in
+    rw (all_hex_even s, e) (go (is_nibble a) (is_nibble b) (is_even s) (list_all is_nibble s))
+  where
+    go : (x y e l : Bool) → (x && (y && (e && l))) ≡ (e && (x && (y && l)))
+    go true true e l = refl
+    go true false true l = refl
+    go true false false l = refl
+    go false y true l = refl
+    go false y false l = refl
 
-  pub at_end : i ≤ length s → length s - i ≤ 1 → eqb i (length s) ≡ all_hex (drop i s)
-  unfolding all_hex
-  at_end l h = go (eqb i (length s)) refl
-    where
-      go : (t : Bool) → eqb i (length s) ≡ t → t ≡ all_hex (drop i s)
-      go true e = let q = eqb-true i (length s) e in rw (drop_of_length-le s {i = i} (omega arith))
-      go false e =
-          let o : i < length s = omega (arith, eqb-false i (length s) e) in rw (drop-cons s i 0 o, drop_of_length-le s {i = suc i} (omega arith))
+pub even_hex : (s : List ℕ) → length s % 2 ≡ 0 → list_all is_nibble s ≡ all_hex s
+even_hex s h = sym (all_hex_even s ∙ ap (λ (e : Bool). e && list_all is_nibble s) (eq-eqb (length s % 2) 0 h))
+
+pub odd_hex : (s : List ℕ) → (length s % 2 ≡ 0 → ⊥) → eqb (length s % 2) 0 ≡ all_hex s
+odd_hex s h = rw (all_hex_even s, ne_eqb (length s % 2) 0 h)
 
 -- ---- the bytes
 
@@ -114,9 +117,6 @@ nibbles_at (x ∷ y ∷ s) (suc i) a h =
     let k = nibbles_at s i (both (is_nibble x) (is_nibble y) (all_hex s) a).1.1 (omega arith) in
     (ap (λ (j : ℕ). is_nibble (get_or (x ∷ y ∷ s) j 0)) e ∙ k.0, ap (λ (j : ℕ). is_nibble (get_or (x ∷ y ∷ s) j 0)) f ∙ k.1)
 
-pub second_nibble : (s : List ℕ) (i : ℕ) → all_hex s ≡ true → 2 * i + 1 < length s → is_nibble (get_or s (2 * i + 1) 0) ≡ true
-second_nibble s i a h = (nibbles_at s i a h).1
-
 -- ---- the decoding
 
 module _ (s d : List ℕ) where
@@ -131,5 +131,31 @@ module _ (s d : List ℕ) where
       ∙ paste-suc d 0 (hex_bytes s) i 0 (omega arith) (omega (arith, bytes_length s))
       ∙ ap (paste d 0 (hex_bytes s)) (sym (add-one i))
 
+-- ---- a pair, behind k of them
+
+module _ (s : List ℕ) (k : ℕ) (pair rest : List ℕ) (e : drop (2 * k) s ≡ pair ++ rest) (two : length pair ≡ 2) where
+  pub pair_room : 2 * k + 1 < length s
+  pair_room = omega (arith, length-append pair rest, ap length e, length-drop (2 * k) s)
+
+  pub pair_rest : rest ≡ drop (2 * (k + 1)) s
+  pair_rest =
+      let n : 2 * k + 2 ≡ 2 * (k + 1) = omega arith in
+      sym (drop_at pair rest 2 two) ∙ sym (ap (drop 2) e) ∙ drop-drop 2 (2 * k) s ∙ ap (λ (j : ℕ). drop j s) n
+
+  at : (j : ℕ) → j < 2 → get_or pair j 0 ≡ get_or s (2 * k + j) 0
+  at j l = sym (get_or-append pair rest 0 j (omega arith)) ∙ sym (ap (λ (l : List ℕ). get_or l j 0) e) ∙ get_or-drop (2 * k) s j 0
+
+  first : get_or pair 0 0 ≡ get_or s (2 * k) 0
+  first = let n : 2 * k + 0 ≡ 2 * k = omega arith in at 0 (omega arith) ∙ ap (λ (j : ℕ). get_or s j 0) n
+
+  pub pair_nibbles : all_hex s ≡ true → (is_nibble (get_or pair 0 0) ≡ true) × (is_nibble (get_or pair 1 0) ≡ true)
+  pair_nibbles a =
+      let h = nibbles_at s k a pair_room in (ap is_nibble first ∙ h.0, ap is_nibble (at 1 (omega arith)) ∙ h.1)
+
+  -- one byte more
+  pub pair_decoded : (d : List ℕ) {f : List ℕ} {x y : ℕ} → k < length d → f ≡ paste d 0 (hex_bytes s) k
+      → x ≡ nibble (get_or pair 0 0) → y ≡ nibble (get_or pair 1 0) → set f k (x * 16 + y) ≡ paste d 0 (hex_bytes s) (k + 1)
+  pair_decoded d l p q r = decoded_more s d k pair_room l p (q ∙ ap nibble first) (r ∙ ap nibble (at 1 (omega arith)))
+
 -- what the decoding needs
-pub ruleset decoding = (bytes_length, nibbles_at, second_nibble, decoded_more, common_steps)
+pub ruleset decoding = (bytes_length, common_steps)

@@ -8,7 +8,7 @@ use native.Mathlib.Omega.{arith}
 use lib.ListN.{length, get_or, length-append, get_or-append}
 use lib.Dec.{ltb, leb, eqb}
 use borrow.Author.Tests.{le-leb, lt-ltb, eq-eqb, ne_eqb, leb-true, ltb-true, eqb-true, eqb-false}
-use Rattle.text.specs.declared.decimal.Number.TheVariants.{Value, Bad}
+use Rattle.std.specs.Prelude.{Some, None}
 use Rattle.text.specs.Decimal.{zero_byte, largest, digits, is_digit, all_digits, value_from, value_of, is_plain, is_number, number_in}
 use Rattle.text.specs.Decimal.{ReadBack, WrittenSo, FewDigits}
 use Rattle.text.proofs.Digits.{digits_one, digits_more, length_digits, by_digits}
@@ -160,7 +160,7 @@ pub written_so : WrittenSo
 unfolding WrittenSo number_in
 written_so s n e = go (is_number s) refl e
   where
-    go : (t : Bool) → is_number s ≡ t → cond t (Value (value_of s)) Bad ≡ Value n → (n ≤ largest) × (s ≡ digits n)
+    go : (t : Bool) → is_number s ≡ t → cond t (Some (value_of s)) None ≡ Some n → (n ≤ largest) × (s ≡ digits n)
     go true p e =
         let v : value_of s ≡ n = cc in
         let k = number_parts s p in

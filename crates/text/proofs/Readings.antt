@@ -3,23 +3,23 @@
 use Prim.Native.Nat.{ℕ, ◌+◌, ◌-◌, ◌*◌, ◌≤◌, ◌<◌}
 use mathlib.Core.Path.{◌≡◌, refl, ap, ◌∙◌}
 use mathlib.Core.Bool.{Bool, true, false, cond, ◌&&◌}
-use mathlib.Core.List.{List, [], ◌∷◌}
+use mathlib.Core.List.{List, []}
 use native.Mathlib.Omega.{arith}
 use native.Mathlib.Numerals.{add-one}
 use lib.ListN.{length, get_or, drop, drop_of_length-le}
 use lib.Seq.{drop-cons}
-use lib.Dec.{eqb}
-use borrow.Author.Tests.{le-leb, lt-leb, lt-ltb, le-ltb, eq-eqb, ne_eqb}
-use Rattle.text.specs.declared.decimal.Number.TheVariants.{Value, Bad}
+use lib.Dec.{leb, eqb}
+use borrow.Author.Tests.{le-leb, lt-leb, lt-ltb, le-ltb, eq-eqb, ne_eqb, eqb-true}
+use Rattle.std.specs.Prelude.{Some, None}
 use Rattle.text.specs.Decimal.{zero_byte, largest, is_digit, all_digits, value_from, value_of, is_plain, is_number, number_in}
 use Rattle.text.proofs.Numerals.{value_grows}
 
 module _ (s : List ℕ) where
-  bad : is_number s ≡ false → Bad ≡ number_in s
+  bad : is_number s ≡ false → None ≡ number_in s
   unfolding number_in
   bad e = rw e
 
-  not_plain : is_plain s ≡ false → Bad ≡ number_in s
+  not_plain : is_plain s ≡ false → None ≡ number_in s
   unfolding is_number
   not_plain e = bad (rw e (go (all_digits s)))
     where
@@ -27,7 +27,7 @@ module _ (s : List ℕ) where
       go true = refl
       go false = refl
 
-  pub none : length s ≡ 0 → Bad ≡ number_in s
+  pub none : length s ≡ 0 → None ≡ number_in s
   unfolding is_plain
   none e = not_plain (rw (e) (go (eqb (get_or s 0 0) zero_byte)))
     where
@@ -35,15 +35,23 @@ module _ (s : List ℕ) where
       go true = refl
       go false = refl
 
-  pub padded : get_or s 0 0 ≡ zero_byte → 1 < length s → Bad ≡ number_in s
+  pub padded : get_or s 0 0 ≡ zero_byte → 1 < length s → None ≡ number_in s
   unfolding is_plain
   padded e l = not_plain (rw (eq-eqb (get_or s 0 0) zero_byte e) (ne_eqb (length s) 1 (λ q. omega arith)))
 
-  pub not_digits : all_digits s ≡ false → Bad ≡ number_in s
+  pub plain : 1 ≤ length s → (get_or s 0 0 ≡ zero_byte → length s ≤ 1) → is_plain s ≡ true
+  unfolding is_plain
+  plain l h = go (eqb (get_or s 0 0) zero_byte) refl
+    where
+      go : (b : Bool) → eqb (get_or s 0 0) zero_byte ≡ b → cond b (eqb (length s) 1) (leb 1 (length s)) ≡ true
+      go true e = let q = h (eqb-true (get_or s 0 0) zero_byte e) in eq-eqb (length s) 1 (omega arith)
+      go false e = le-leb 1 (length s) l
+
+  pub not_digits : all_digits s ≡ false → None ≡ number_in s
   unfolding is_number
   not_digits e = bad (rw e)
 
-  pub too_large : largest < value_of s → Bad ≡ number_in s
+  pub too_large : largest < value_of s → None ≡ number_in s
   unfolding is_number
   too_large h = bad (rw (lt-leb (value_of s) largest h) (go (all_digits s) (is_plain s)))
     where
@@ -52,16 +60,9 @@ module _ (s : List ℕ) where
       go true false = refl
       go false b = refl
 
-  pub is_number_lem : (v : ℕ) → all_digits s ≡ true → 1 ≤ length s → (get_or s 0 0 ≡ zero_byte → ⊥)
-      → value_of s ≡ v → v ≤ largest → Value v ≡ number_in s
-  unfolding number_in is_number is_plain
-  is_number_lem v a l n e h = rw (a, ne_eqb (get_or s 0 0) zero_byte n, le-leb 1 (length s) l, e, le-leb v largest h)
-
-pub nought : (s : List ℕ) → get_or s 0 0 ≡ zero_byte → length s ≤ 1 → Value 0 ≡ number_in s
-unfolding number_in is_number is_plain all_digits value_of value_from
-nought [] e l = absurd (omega arith)
-nought (b ∷ []) e l = rw e
-nought (b ∷ x ∷ s) e l = absurd (omega arith)
+  number : (v : ℕ) → all_digits s ≡ true → is_plain s ≡ true → value_of s ≡ v → v ≤ largest → Some v ≡ number_in s
+  unfolding number_in is_number
+  number v a p e h = rw (a, p, e, le-leb v largest h)
 
 -- ---- at the place i, with v read so far
 
@@ -85,14 +86,13 @@ module _ (s : List ℕ) (i : ℕ) (h : i < length s) where
   unfolding value_from
   value_passed v = rw (drop-cons s i 0 h, add-one i)
 
-pub too_large_already : (s : List ℕ) (v : ℕ) (t : List ℕ) → value_of s ≡ value_from v t → largest < v → Bad ≡ number_in s
+pub too_large_already : (s : List ℕ) (v : ℕ) (t : List ℕ) → value_of s ≡ value_from v t → largest < v → None ≡ number_in s
 too_large_already s v t e h = too_large s (omega (arith, e, value_grows v t))
 
-pub all_passed : (s : List ℕ) (v i : ℕ) → length s ≤ i → 1 ≤ length s → (get_or s 0 0 ≡ zero_byte → ⊥) → all_digits s ≡ all_digits (drop i s)
-    → value_of s ≡ value_from v (drop i s) → v ≤ largest → Value v ≡ number_in s
+pub all_passed : (s : List ℕ) (v i : ℕ) → length s ≤ i → is_plain s ≡ true → all_digits s ≡ all_digits (drop i s)
+    → value_of s ≡ value_from v (drop i s) → v ≤ largest → Some v ≡ number_in s
 unfolding all_digits value_from
-all_passed s v i h l n a e m =
-    let z : drop i s ≡ [] = drop_of_length-le s h in is_number_lem s v (a ∙ ap all_digits z) l n (e ∙ ap (value_from v) z) m
+all_passed s v i h p a e m = let z : drop i s ≡ [] = drop_of_length-le s h in number s v (a ∙ ap all_digits z) p (e ∙ ap (value_from v) z) m
 
 -- what the reader of numbers needs: its returns, and what a turn of its loop does
-pub ruleset reading = (none, nought, padded, not_digits, stop_low, stop_high, digit_passed, value_passed, too_large_already, all_passed)
+pub ruleset reading = (none, padded, plain, not_digits, stop_low, stop_high, digit_passed, value_passed, too_large_already, all_passed)

@@ -1,15 +1,16 @@
--- The bytes in front of a separator are a front of the whole, by induction on the bytes. A search that has passed i bytes without
--- meeting the separator has the rest of them still in front of it, which ends where it meets one or where the bytes end.
-use Prim.Native.Nat.{ℕ, suc, ◌+◌, ◌≤◌, ◌<◌}
-use mathlib.Core.Path.{◌≡◌, refl, ap}
+-- The bytes in front of a separator are a front of the whole, by induction on the bytes. They are as many as a search for the
+-- separator passes, since both recur over the bytes in the same way.
+use Prim.Native.Nat.{ℕ, suc, ◌+◌, ◌≤◌}
+use mathlib.Core.Path.{◌≡◌, refl, sym, ap}
 use mathlib.Core.Bool.{Bool, true, false, cond}
 use mathlib.Core.List.{List, [], ◌∷◌}
 use native.Mathlib.Omega.{arith}
-use native.Mathlib.Numerals.{add-one}
-use lib.ListN.{length, get_or, take, drop, drop_of_length-le}
-use lib.Seq.{drop-cons}
-use lib.Dec.{eqb}
-use borrow.Author.Tests.{eq-eqb, ne_eqb}
+use lib.ListN.{length, take}
+use lib.Dec.{ltb, eqb}
+use borrow.Author.Tests.{ltb-false}
+use Rattle.std.specs.Prelude.{position, unwrap_or, Some, None}
+use Rattle.std.specs.List.{position_or_len}
+use Rattle.std.proofs.lemmas.List.Recursion.{is_position_or_len}
 use Rattle.text.specs.Pieces.{before}
 
 pub before_length : (b : ℕ) (s : List ℕ) → length (before b s) ≤ length s
@@ -30,22 +31,22 @@ before_part b (x ∷ s) = go (eqb x b) (before b s) (before_part b s)
     go true r e = refl
     go false r e = ap (λ (l : List ℕ). x ∷ l) e
 
--- ---- a search at the place i
+-- ---- they are as many as a search passes
 
-module _ (b : ℕ) (s : List ℕ) (i : ℕ) where
-  pub met : i < length s → get_or s i 0 ≡ b → length (before b (drop i s)) ≡ 0
-  unfolding before
-  met h e = rw (drop-cons s i 0 h, eq-eqb (get_or s i 0) b e)
+before_passed : (b : ℕ) (s : List ℕ) → length (before b s) ≡ position_or_len (λ x. eqb x b) s
+unfolding before
+before_passed b = is_position_or_len (λ s. length (before b s)) (λ x. eqb x b) refl (λ x s. step (eqb x b) x (before b s))
+  where
+    step : (t : Bool) (x : ℕ) (r : List ℕ) → length (cond t [] (x ∷ r)) ≡ cond t 0 (1 + length r)
+    step true x r = refl
+    step false x r = omega arith
 
-  pub passed : i < length s → (get_or s i 0 ≡ b → ⊥) → i + length (before b (drop i s)) ≡ i + 1 + length (before b (drop (i + 1) s))
-  unfolding before
-  passed h n =
-      let e : before b (drop i s) ≡ get_or s i 0 ∷ before b (drop (i + 1) s) = rw (drop-cons s i 0 h, ne_eqb (get_or s i 0) b n, add-one i) in
-      omega (arith, ap length e)
+pub before_found : (b : ℕ) (s : List ℕ) → unwrap_or (position (λ x. eqb x b) s) (length s) ≡ length (before b s)
+before_found b s = go (ltb n (length s)) refl
+  where
+    n : ℕ
+    n = position_or_len (λ x. eqb x b) s
 
-  pub ended : length s ≤ i → length (before b (drop i s)) ≡ 0
-  unfolding before
-  ended h = rw (drop_of_length-le s h)
-
--- what the search of a byte needs
-pub ruleset searching = (met, passed, ended)
+    go : (t : Bool) → ltb n (length s) ≡ t → unwrap_or (cond t (Some n) None) (length s) ≡ length (before b s)
+    go true e = sym (before_passed b s)
+    go false e = omega (arith, ltb-false n (length s) e, before_passed b s, before_length b s)

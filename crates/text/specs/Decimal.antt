@@ -1,7 +1,5 @@
 -- 'Numbers are decimal, 0 to 4294967295, no leading zeros': how a number is written, and which bytes are one.
-use Rattle.std.specs.Prelude.{ℕ, zero, suc, ◌+◌, ◌-◌, ◌*◌, ◌/◌, ◌%◌, ◌≤◌, ◌≡◌, Bool, true, cond, ◌&&◌, List, [], ◌∷◌, ◌++◌, length, get_or, ltb, leb, eqb}
-use Rattle.text.specs.declared.decimal.Number.{Number}
-use Rattle.text.specs.declared.decimal.Number.TheVariants.{Value, Bad}
+use Rattle.std.specs.Prelude.{ℕ, zero, suc, ◌+◌, ◌-◌, ◌*◌, ◌/◌, ◌%◌, ◌≤◌, ◌≡◌, Bool, true, cond, ◌&&◌, List, [], ◌∷◌, ◌++◌, length, get_or, ltb, leb, eqb, Option, Some, None}
 
 -- the byte of the digit 0; the others follow it
 abbrev pub zero_byte : ℕ
@@ -45,17 +43,17 @@ is_plain s = cond (eqb (get_or s 0 0) zero_byte) (eqb (length s) 1) (leb 1 (leng
 unfoldable pub is_number : List ℕ → Bool
 is_number s = all_digits s && (is_plain s && leb (value_of s) largest)
 
--- the number that the bytes s are
-unfoldable pub number_in : List ℕ → Number
-number_in s = cond (is_number s) (Value (value_of s)) Bad
+-- the number that the bytes s are, if they are one
+unfoldable pub number_in : List ℕ → Option ℕ
+number_in s = cond (is_number s) (Some (value_of s)) None
 
 -- ---- what is shown: a number written is read back, and only what is written so is read
 
 unfoldable pub ReadBack : Type 0
-ReadBack = (n : ℕ) → n ≤ largest → number_in (digits n) ≡ Value n
+ReadBack = (n : ℕ) → n ≤ largest → number_in (digits n) ≡ Some n
 
 unfoldable pub WrittenSo : Type 0
-WrittenSo = (s : List ℕ) (n : ℕ) → number_in s ≡ Value n → (n ≤ largest) × (s ≡ digits n)
+WrittenSo = (s : List ℕ) (n : ℕ) → number_in s ≡ Some n → (n ≤ largest) × (s ≡ digits n)
 
 -- the most digits a number has
 abbrev pub most_digits : ℕ

@@ -1,5 +1,5 @@
 -- 'The frame is lower-case hex, at least one byte': which bytes are hex, and what they stand for.
-use Rattle.std.specs.Prelude.{ℕ, ◌+◌, ◌-◌, ◌*◌, Bool, true, false, cond, ◌&&◌, ◌||◌, List, [], ◌∷◌, ◌++◌, length, drop, ltb, leb}
+use Rattle.std.specs.Prelude.{ℕ, zero, suc, ◌+◌, ◌-◌, ◌*◌, Bool, true, false, cond, ◌&&◌, ◌||◌, List, [], ◌∷◌, ◌++◌, length, drop, ltb, leb, Option, Some, None}
 
 -- 0 to 9, then a to f
 abbrev pub is_numeral : ℕ → Bool
@@ -38,3 +38,8 @@ hexed s d = cond (can_hex s d) (length (hex_bytes s)) 0
 -- the bytes at the front of d, with those behind kept; or d as it was
 unfoldable pub hexed_into : List ℕ → List ℕ → List ℕ
 hexed_into s d = cond (can_hex s d) (hex_bytes s ++ drop (length (hex_bytes s)) d) d
+
+-- a count, where 0 says that there is nothing
+unfoldable pub counted : ℕ → Option ℕ
+counted zero = None
+counted (suc n) = Some (suc n)

@@ -1,4 +1,4 @@
 pub mod Pieces
 pub mod Decimal
 pub mod Hex
-pub mod Buffers
+pub mod Pages

@@ -1,12 +1,12 @@
-// Decimal numbers, hex and words as bytes: read from a slice, written to a buffer.
+// Decimal numbers, hex and words as bytes: read from a slice, written to a destination.
 #![tactic(auto)]
 
-mod buffer;
 mod decimal;
 mod hex;
+mod page;
 mod pieces;
 
-pub use buffer::{append, append_u32};
-pub use decimal::{Number, read_number};
+pub use decimal::read_number;
 pub use hex::read_hex;
-pub use pieces::until;
+pub use page::Page;
+pub use pieces::{cut, until};

@@ -33,7 +33,7 @@ use Rattle.course.proofs.Known as known
 use Rattle.soundness.proofs.Bounds.{script_short}
 use Rattle.rules.specs.Rules.{IsOpen}
 use Rattle.table.specs.Calls.{case_of, moved_by, image_by}
-use Rattle.upkeep.proofs.Stands.{Stands}
+use Rattle.upkeep.specs.SoundTables.{Stands}
 use Rattle.upkeep.proofs.Unqueued.{open_rules, wanted_slot}
 use Rattle.upkeep.proofs.Moves.{here, after, seat_other, lined}
 use Rattle.upkeep.proofs.AlikeTables.{AlikeSeat, Alike}

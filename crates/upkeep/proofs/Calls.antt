@@ -14,7 +14,8 @@ use Rattle.runs.specs.Runs.{kept_writes}
 use Rattle.course.specs.Steps.{image_after}
 use Rattle.runs.proofs.Kept.{written_length}
 use Rattle.table.specs.Calls.{open_call, case_of, image_by, step_call, step_image}
-use Rattle.upkeep.proofs.Stands.{Stands, Upkeep}
+use Rattle.upkeep.specs.SoundTables.{Stands}
+use Rattle.upkeep.proofs.Stands.{Upkeep}
 use Rattle.upkeep.proofs.Replies.{step_any, open_any}
 
 image_length : (c : Case) (ρ : Run) (img : List ℕ) → length (image_after c ρ img) ≡ length img

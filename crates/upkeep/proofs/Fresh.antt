@@ -18,7 +18,7 @@ use Rattle.seats.proofs.Lines.{entries_none, waits_none}
 use Rattle.seats.proofs.Hands.{whole_free, queue_free, held_free, lined_free}
 use Rattle.rules.specs.Rules.{Owns, Waits, Distinct, Rule1, Closed, PhaseRules}
 use Rattle.rules.proofs.Shaped.{Shaped, ShapedSeat}
-use Rattle.upkeep.proofs.Stands.{Stands}
+use Rattle.upkeep.specs.SoundTables.{Stands}
 use Rattle.upkeep.proofs.ShapeSeats.{shaped_blank}
 
 seat_fresh : (i : ℕ) → i < seats → seat_at fresh i ≡ blank_seat

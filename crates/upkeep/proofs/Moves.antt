@@ -26,7 +26,7 @@ use Rattle.course.specs.Steps.{seat_after, slots_after}
 use Rattle.course.proofs.Known as known
 use Rattle.rules.specs.Rules.{Owns, Waits, IsOpen}
 use Rattle.table.specs.Calls.{case_of}
-use Rattle.upkeep.proofs.Stands.{Stands}
+use Rattle.upkeep.specs.SoundTables.{Stands}
 use Rattle.upkeep.proofs.Unqueued.{unqueued}
 use Rattle.upkeep.proofs.Room.{room_left}
 

@@ -10,7 +10,6 @@ use lib.Dec.{eqb}
 use lib.ListN.{length}
 use lib.Seq.{get_or-set_same, get_or-set_other}
 use borrow.Author.Tests.{eqb-true, eqb-false}
-use Rattle.slots.specs.Sizes.{slots}
 use Rattle.slots.specs.Refusals.{refusal}
 use Rattle.slots.specs.Sets.{none}
 use Rattle.slots.proofs.Truth.{split, not_both}
@@ -29,7 +28,7 @@ use Rattle.seats.specs.Seats.{is_open, opened_run}
 use Rattle.seats.specs.Tables.{no_seat, seat_at}
 use Rattle.rules.specs.Rules.{IsOpen, Rule1, Closed, PhaseRules}
 use Rattle.table.specs.Calls.{with_seat, opened_seat}
-use Rattle.upkeep.proofs.Stands.{Stands}
+use Rattle.upkeep.specs.SoundTables.{Stands}
 use Rattle.upkeep.proofs.Handed.{handed_same, phase_kept}
 use Rattle.upkeep.proofs.OwnParts.{Parts, queued_in, queued_waits, rules}
 use Rattle.upkeep.proofs.OwnRestart.{two_opened}

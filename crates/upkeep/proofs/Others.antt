@@ -20,7 +20,7 @@ use Rattle.course.specs.declared.cases.Case.TheVariants as case
 use Rattle.course.specs.Steps.{slots_after}
 use Rattle.rules.specs.Rules.{IsOpen, PhaseRules}
 use Rattle.table.specs.Calls.{case_of, moved_by}
-use Rattle.upkeep.proofs.Stands.{Stands}
+use Rattle.upkeep.specs.SoundTables.{Stands}
 use Rattle.upkeep.proofs.Unqueued.{wanted_slot}
 use Rattle.upkeep.proofs.Handed.{Handed, handed_same, phase_kept}
 use Rattle.upkeep.proofs.Taking.{taking_others}

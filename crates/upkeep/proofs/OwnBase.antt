@@ -22,7 +22,7 @@ use Rattle.course.specs.Steps.{seat_after, slots_after}
 use Rattle.course.proofs.Known.{Known, known_case}
 use Rattle.rules.specs.Rules.{Waits, IsOpen, PhaseRules}
 use Rattle.table.specs.Calls.{case_of}
-use Rattle.upkeep.proofs.Stands.{Stands}
+use Rattle.upkeep.specs.SoundTables.{Stands}
 use Rattle.upkeep.proofs.Unqueued.{open_rules}
 use Rattle.upkeep.proofs.OwnParts.{Parts, queued_in, queued_waits, parts, rules}
 

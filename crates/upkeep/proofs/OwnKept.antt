@@ -21,7 +21,7 @@ use Rattle.course.specs.Steps.{ended, seat_after, slots_after}
 use Rattle.course.proofs.Known.{known_want}
 use Rattle.rules.specs.Rules.{IsOpen, Closed, Ended, PhaseRules}
 use Rattle.table.specs.Calls.{case_of, moved_by}
-use Rattle.upkeep.proofs.Stands.{Stands}
+use Rattle.upkeep.specs.SoundTables.{Stands}
 use Rattle.upkeep.proofs.OwnParts.{queued_in}
 use Rattle.upkeep.proofs.OwnSlots.{released-from, released_calm}
 use Rattle.upkeep.proofs.OwnEnded.{closed_ended, counts_ended}

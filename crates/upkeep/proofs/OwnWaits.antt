@@ -23,7 +23,7 @@ use Rattle.course.specs.Steps.{goes_on, seat_after, slots_after}
 use Rattle.course.proofs.Known.{known_want}
 use Rattle.rules.specs.Rules.{IsOpen}
 use Rattle.table.specs.Calls.{case_of}
-use Rattle.upkeep.proofs.Stands.{Stands}
+use Rattle.upkeep.specs.SoundTables.{Stands}
 use Rattle.upkeep.proofs.Unqueued.{wanted_slot}
 use Rattle.upkeep.proofs.OwnParts.{Parts, queued_in}
 use Rattle.upkeep.proofs.OwnSlots.{taken_keeps, taken_here, taken-from, taken_queued, queued_here, queued_alone}

@@ -20,13 +20,13 @@ use Rattle.seats.specs.declared.table.Table.{Table}
 use Rattle.seats.specs.Queues.{seats}
 use Rattle.seats.specs.Seats.{is_open}
 use Rattle.seats.specs.Tables.{seat_at}
-use Rattle.course.specs.declared.cases.Word.TheVariants as word
+use Rattle.course.specs.Words as word
 use Rattle.course.specs.Cases.{word_of}
 use Rattle.soundness.specs.Tests.{sound_test}
 use Rattle.rules.specs.Rules.{IsOpen}
 use Rattle.rules.proofs.Same.{rules_test}
 use Rattle.table.specs.Calls.{with_seat, opened_seat, open_refusal, open_call, case_of, moved_by, image_by, step_refusal, step_call, step_image}
-use Rattle.upkeep.proofs.Stands.{Stands}
+use Rattle.upkeep.specs.SoundTables.{Stands}
 
 pub open_phase : (p : Phase) → is_open p ≡ true → p ≡ Open
 unfolding is_open

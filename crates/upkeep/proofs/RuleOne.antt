@@ -21,7 +21,7 @@ use Rattle.course.specs.declared.cases.Case.TheVariants as case
 use Rattle.course.specs.Steps.{restarted, seat_after, slots_after}
 use Rattle.rules.specs.Rules.{Waits, IsOpen, Rule1}
 use Rattle.table.specs.Calls.{case_of, moved_by}
-use Rattle.upkeep.proofs.Stands.{Stands}
+use Rattle.upkeep.specs.SoundTables.{Stands}
 use Rattle.upkeep.proofs.Unqueued.{wanted_slot}
 use Rattle.upkeep.proofs.Taking.{taking_rule}
 use Rattle.upkeep.proofs.Joining.{joining_rule}

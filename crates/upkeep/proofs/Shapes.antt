@@ -25,7 +25,7 @@ use Rattle.course.specs.Steps.{seat_after, slots_after}
 use Rattle.rules.specs.Rules.{IsOpen}
 use Rattle.rules.proofs.Shaped.{Shaped, ShapedSeat}
 use Rattle.table.specs.Calls.{case_of, moved_by}
-use Rattle.upkeep.proofs.Stands.{Stands}
+use Rattle.upkeep.specs.SoundTables.{Stands}
 use Rattle.upkeep.proofs.Unqueued.{Small, wanted_slot}
 use Rattle.upkeep.proofs.Moves.{lined}
 use Rattle.upkeep.proofs.Others.{whole_after}

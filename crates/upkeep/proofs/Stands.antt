@@ -10,13 +10,9 @@ use Rattle.seats.specs.Queues.{seats}
 use Rattle.seats.specs.Seats.{is_open}
 use Rattle.seats.specs.Tables as tables
 use Rattle.seats.specs.Tables.{seat_at}
-use Rattle.rules.specs.Rules.{IsOpen, Sound}
-use Rattle.rules.proofs.Shaped.{Shaped}
+use Rattle.rules.specs.Rules.{IsOpen}
+use Rattle.upkeep.specs.SoundTables.{Stands}
 use Rattle.table.specs.Calls.{with_seat, opened_seat, moved_by}
-
-pub record Stands (own : ℕ → ℕ) (t : Table) : Type 0 where
-  pub shaped : Shaped t
-  pub sound : Sound own t
 
 pub record Upkeep (own : ℕ → ℕ) : Type 0 where
   pub fresh : Stands own tables.fresh

@@ -27,7 +27,7 @@ use Rattle.course.proofs.Known as known
 use Rattle.rules.specs.Rules.{Waits, IsOpen, OpenRules}
 use Rattle.rules.proofs.Phases.{rules_of_open}
 use Rattle.table.specs.Calls.{case_of}
-use Rattle.upkeep.proofs.Stands.{Stands}
+use Rattle.upkeep.specs.SoundTables.{Stands}
 
 -- ---- a seat that waits for the slot it wants
 

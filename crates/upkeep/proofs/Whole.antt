@@ -10,7 +10,7 @@ use Rattle.seats.specs.declared.table.Table.{Table}
 use Rattle.seats.specs.Tables.{seat_at}
 use Rattle.rules.specs.Rules.{IsOpen, PhaseRules}
 use Rattle.table.specs.Calls.{moved_by}
-use Rattle.upkeep.proofs.Stands.{Stands}
+use Rattle.upkeep.specs.SoundTables.{Stands}
 use Rattle.upkeep.proofs.OwnKept.{own_kept}
 use Rattle.upkeep.proofs.RuleOne.{rule1_kept}
 use Rattle.upkeep.proofs.Others.{others_kept}

@@ -1,23 +1,20 @@
--- All of the listing is within the buffer that it was written to (`listed-fits`), so it can be lent to be written out.
-use Prim.Native.Nat.{ℕ, ◌≤◌}
-use mathlib.Core.Path.{◌≡◌, sym, ap}
-use mathlib.Core.List.{List}
-use native.Mathlib.Omega.{arith}
-use lib.ListN.{length}
+-- The room for a listing is that of the longest one, so the call is not refused, and the listing stands within it (`ListFits`).
+use Rattle.std.proofs.Common.{arith, sym, ℕ}
 use lib.Seq.{length-take-le}
-use Rattle.sheet.specs.declared.listing.Listed.{Listed}
-use Rattle.sheet.specs.Calls.{listed, destination}
-use Rattle.sheet.proofs.ListFits.{listed-fits}
+use lib.ListN.{length-replicate}
+use Rattle.sheet.specs.Bounds.{most_listing}
+use Rattle.sheet.proofs.ListFits.{not_refused, within}
 use Rattle.filter.proofs.run.Goals as goal
 
-inside : {r : Listed} {e : List ℕ} (s d : List ℕ) → (r ≡ listed s (length d)) × (e ≡ destination s d) → r.len ≤ length e
-inside {r} {e} s d h =
-    let a : r.len ≡ (listed s (length d)).len = ap (λ (x : Listed). x.len) h.0 in
-    let b : length e ≡ length (destination s d) = ap length h.1 in
-    omega (arith, listed-fits s d)
+pub unwrap-len-requires : goal.unwrap-len-requires
+unwrap-len-requires g c = not_refused _ _ _ (length-replicate {A = ℕ} most_listing 0) c.list_sheet.ensures.answer
 
 pub slice_bounds-listing-end : goal.slice_bounds-listing-end
-slice_bounds-listing-end g c = inside _ _ c.list_sheet-listed.ensures
+slice_bounds-listing-end g c =
+    let h = within _ _ _ (length-replicate {A = ℕ} most_listing 0) c.list_sheet.ensures.answer _ c.unwrap-len.ensures in
+    omega (arith, h, c.list_sheet.auto.dst)
 
 pub slice_bounds-write_all-end : goal.slice_bounds-write_all-end
-slice_bounds-write_all-end g c = sym (length-take-le _ _ (inside _ _ c.list_sheet-listed.ensures))
+slice_bounds-write_all-end g c =
+    let h = within _ _ _ (length-replicate {A = ℕ} most_listing 0) c.list_sheet.ensures.answer _ c.unwrap-len.ensures in
+    sym (length-take-le _ _ (omega (arith, h, c.list_sheet.auto.dst)))

@@ -4,8 +4,8 @@ use lib.ListN.{length}
 use Rattle.shelf.specs.Shelves.{shelf, find}
 use Rattle.shelf.proofs.frame_on.Given as goal
 
-abbrev pub invariant-loop-rest : goal.invariant-loop-rest
-invariant-loop-rest l = find l.number (shelf l.s) ≡ find l.number (shelf l.rest)
+abbrev pub invariant-loop-entry : goal.invariant-loop-entry
+invariant-loop-entry l = find l.number (shelf l.s) ≡ find l.number (shelf l.rest)
 
-abbrev pub decreases-loop-rest : goal.decreases-loop-rest
-decreases-loop-rest l = length l.rest
+abbrev pub decreases-loop-entry : goal.decreases-loop-entry
+decreases-loop-entry l = length l.rest

@@ -1,33 +1,20 @@
--- A turn meets the queue of slot k, or skips it where it is empty.
-use Prim.Native.Nat.{ℕ}
-use mathlib.Core.Path.{◌≡◌, sym, ap, ◌∙◌}
-use mathlib.Core.Bool.{true}
+-- A turn meets the queue of one slot. If a seat was met before, the queues that follow do not make it fine again.
+use Rattle.std.proofs.Common.{true, sym, ap, ◌∙◌}
 use native.Mathlib.Omega.{arith}
 use Rattle.slots.specs.Sizes.{slots}
-use Rattle.seats.specs.Queues.{entries}
-use Rattle.seats.specs.SlotTables.{queue_of}
-use Rattle.rule_one.specs.Tests.{waiters, all_seats, unmet, met_all}
-use Rattle.rule_one.proofs.Meets.{waiters-none, waiters-next, waiters_skip}
+use Rattle.rule_one.specs.Tests.{all_seats, unmet}
+use Rattle.rule_one.proofs.Meets.{waiters_none, waiters_more, waiters_twice, waiters_all}
 use Rattle.rule_one.proofs.lines.meet_all.Goals as goal
-use Rattle.rule_one.proofs.lines.meet_all.Goals.{then-q-ne0, else-q-ne0}
 
-pub loop-k-init : goal.loop-k-init
-loop-k-init c = (omega arith, ap (unmet true) c.all_seats.ensures ∙ sym (waiters-none c.args.t (unmet true all_seats)))
+pub loop-q-init : goal.loop-q-init
+loop-q-init c = ap (unmet true) c.all_seats-left.ensures ∙ sym (waiters_none c.args.t.now (unmet true all_seats))
 
-pub loop-k-preserved : goal.loop-k-preserved
-loop-k-preserved c =
-    let t = c.args.t in
-    let k = c.loop-k.k in
-    let e = c.loop-k.invariant.1 in (
-      omega arith,
-      elim c.if-q-ne0.branch [
-        | then-q-ne0 w ↦
-            w.r-is ∙ w.meet_queue-r.ensures ∙ ap (met_all (entries (queue_of t k))) e ∙ waiters-next t k (unmet true all_seats)
-        | else-q-ne0 w ↦ w.r-is ∙ e ∙ waiters_skip t k (unmet true all_seats) w.if-q-ne0.false
-      ],
-    )
+pub returns-in_err-left : goal.returns-in_err-left
+returns-in_err-left c =
+    c.from_residual.ensures ∙ sym (waiters_twice _ _ _ _ c.loop-q.invariant slots (omega arith) (sym c.meet_queue.ensures ∙ c.in_err-left.was))
+
+pub loop-q-preserved : goal.loop-q-preserved
+loop-q-preserved c = waiters_more _ _ _ _ c.loop-q.invariant _ (sym c.meet_queue.ensures ∙ c.in_ok-left.was)
 
 pub returns : goal.returns
-returns c =
-    let done : c.loop-k.k ≡ slots = omega arith in
-    c.loop-k.invariant.1 ∙ ap (λ (n : ℕ). met_all (waiters c.args.t n) (unmet true all_seats)) done
+returns c = sym (waiters_all _ _ _ _ c.loop-q.invariant slots (omega arith))

@@ -1,39 +1,45 @@
 -- The script writer. The script's own number is asked first and then the room, so each way out knows the writer's number by the laws of
 -- `Writer`: a refusal leaves the destination as it was, and otherwise `put_frame` puts the frame.
-use Rattle.std.proofs.Common.{◌≡◌, ◌≤◌, sym, ap, ◌∙◌, arith, rules}
-use Rattle.slots.specs.Refusals.{refusal}
-use Rattle.script.specs.declared.code.Script.{Script}
-use Rattle.script.specs.Scripts.{max_instructions, instrs}
-use Rattle.script.specs.Legal.{script_checks}
-use Rattle.script.proofs.Lawful.{code_ok}
-use Rattle.script.proofs.Writer.{wrote, write_first, write_14, write_0, write_refused, write_script}
+use Rattle.std.specs.Prelude.{Ok, Err}
+use Rattle.std.proofs.Common.{ℕ, sym, ap, ◌∙◌, arith}
+use Rattle.std.proofs.lemmas.Result.{err_from_is_err_and}
+use Rattle.slots.specs.Refusals.{number_of, number_in}
+use Rattle.slots.specs.declared.refusals.Refusal.TheVariants.{DestinationTooShort}
+use Rattle.slots.proofs.Answers.{no_number}
+use Rattle.script.specs.Frames.{said_written}
+use Rattle.script.proofs.Writer.{write_first, write_14, write_0, write_no, write_script}
 use Rattle.script.proofs.writing.write_script.Goals as goal
 
--- a script without a number has at most 64 instructions
-few : (s : Script) → refusal (script_checks s) ≡ 0 → s.len ≤ max_instructions
-few s free = (code_ok s.len (instrs s) free).0
+pub returns-in_err-check-clause-answer : goal.returns-in_err-check-clause-answer
+unfolding number_in
+returns-in_err-check-clause-answer c =
+    let p = err_from_is_err_and c.from_residual.result c.from_residual.ensures.1 in
+    let r = c.in_err-check.field-0.0 in
+    ap said_written (p.1 ∙ ap Err p.2) ∙ (write_no c.args.script.now c.args.dst.now r (write_first _ _ c.in_err-check.ensures (no_number r))).0
 
-pub returns-then-number-ne0 : goal.returns-then-number-ne0
-returns-then-number-ne0 c =
-    let a = c.args in
-    write_refused _ a.dst.now (write_first _ _ c.refusal-number.ensures c.if-number-ne0.true) c.if-number-ne0.true
+pub returns-in_err-check-clause-destination : goal.returns-in_err-check-clause-destination
+unfolding number_in
+returns-in_err-check-clause-destination c =
+    let r = c.in_err-check.field-0.0 in
+    (write_no c.args.script.now c.args.dst.now r (write_first _ _ c.in_err-check.ensures (no_number r))).1
 
-pub overflow_mul-script : goal.overflow_mul-script
-overflow_mul-script c = omega (arith, few c.args.script (sym c.refusal-number.ensures ∙ c.if-number-ne0.false))
+pub returns-then-dst-script-clause-answer : goal.returns-then-dst-script-clause-answer
+unfolding number_in number_of
+returns-then-dst-script-clause-answer c =
+    (write_no c.args.script.now c.args.dst.now DestinationTooShort (write_14 _ _ (sym c.in_ok-check.ensures) (omega arith))).0
 
-pub overflow_add-script : goal.overflow_add-script
-overflow_add-script c = omega (arith, few c.args.script (sym c.refusal-number.ensures ∙ c.if-number-ne0.false))
+pub returns-then-dst-script-clause-destination : goal.returns-then-dst-script-clause-destination
+unfolding number_in number_of
+returns-then-dst-script-clause-destination c =
+    (write_no c.args.script.now c.args.dst.now DestinationTooShort (write_14 _ _ (sym c.in_ok-check.ensures) (omega arith))).1
 
-pub returns-then-dst-script : goal.returns-then-dst-script
-returns-then-dst-script c =
-    let free = sym c.refusal-number.ensures ∙ c.if-number-ne0.false in
-    write_refused _ c.args.dst.now (write_14 _ _ free (search rules)) (λ q. omega arith)
+pub returns-clause-answer : goal.returns-clause-answer
+unfolding number_in
+returns-clause-answer c =
+    ap (λ (n : ℕ). said_written (Ok n)) c.put_frame.ensures.bytes
+    ∙ (write_script c.args.script.now c.args.dst.now (write_0 _ _ (sym c.in_ok-check.ensures) (omega arith))).0
 
-pub put_frame-requires : goal.put_frame-requires
-put_frame-requires c = omega (arith, few c.args.script (sym c.refusal-number.ensures ∙ c.if-number-ne0.false))
-
-pub returns : goal.returns
-returns c =
-    let free = sym c.refusal-number.ensures ∙ c.if-number-ne0.false in
-    let w = write_script c.args.script c.args.dst.now (write_0 _ _ free (search rules)) in
-    (ap (wrote 0) c.put_frame.ensures.0 ∙ w.0, c.put_frame.ensures.1 ∙ w.1)
+pub returns-clause-destination : goal.returns-clause-destination
+unfolding number_in
+returns-clause-destination c =
+    c.put_frame.ensures.frame ∙ (write_script c.args.script.now c.args.dst.now (write_0 _ _ (sym c.in_ok-check.ensures) (omega arith))).1

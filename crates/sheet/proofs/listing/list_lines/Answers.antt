@@ -1,80 +1,51 @@
--- The loop's invariant: what is written and the listing of the bytes that are left are the whole listing, and the table stands (`Going` of
--- ListTurns). A turn hands on the first line of what is left, and goes on behind it, over fewer bytes.
-use Prim.Native.Nat.{ℕ, ◌≤◌}
-use mathlib.Core.List.{List}
-use mathlib.Core.Path.{◌≡◌, sym, ap, ◌∙◌}
-use native.Mathlib.Omega.{arith}
-use lib.ListN.{length, take, length-replicate}
-use lib.Seq.{length-take-le}
-use Rattle.slots.specs.Owners.{owner_of}
-use Rattle.upkeep.proofs.Replies.{stands_test}
-use Rattle.text.proofs.Separators.{before_length, before_part}
-use Rattle.sheet.specs.Lines.{line_feed, first_line}
-use Rattle.sheet.specs.Listings.{most_input}
-use Rattle.sheet.specs.Turns.{most_frame}
-use Rattle.sheet.proofs.SheetLines.{others_length, past_part}
-use Rattle.sheet.proofs.ListTurns.{first, line_room, line_bad, line-ends, line_more, cells_room, end_room, end_done}
+-- A turn hands on the first line of what is left, and goes on behind it, over fewer bytes (`ListTurns`).
+use Rattle.std.proofs.Common.{rules, arith, length, ap, ◌<◌}
+use Rattle.text.proofs.Separators.{before_length}
+use Rattle.sheet.specs.Lines.{line_feed}
+use Rattle.sheet.proofs.SheetLines.{others_length}
+use Rattle.sheet.proofs.ListTurns.{first, line_room, line_bad, line_ends, line_more, cells_room, end_room, end_done}
 use Rattle.sheet.proofs.listing.list_lines.Goals as goal
 
--- the part that ends at the end of the line is the first line of what is left
-front : (s : List ℕ) (e : ℕ) → e ≡ length (first_line s) → take e s ≡ first_line s
-front s e q = ap (λ (k : ℕ). take k s) q ∙ before_part line_feed s
-
 pub loop-rest-init : goal.loop-rest-init
-loop-rest-init c =
-    let a = c.args in
-    (length-replicate {A = ℕ} most_frame 0, first a.s.now a.dst.now a.at _ c.requires.0 c.fresh-t.ensures)
+loop-rest-init c = first c.args.s.now c.args.page.now _ c.requires.short c.fresh.ensures
 
-pub slice_bounds-list_line-end-in-loop-rest-2 : goal.slice_bounds-list_line-end-in-loop-rest-2
-slice_bounds-list_line-end-in-loop-rest-2 c =
-    sym (length-take-le _ _ (omega (arith, c.until-e.ensures, before_length line_feed c.loop-rest.rest.now)))
+pub take_line-requires-clause-room : goal.take_line-requires-clause-room
+take_line-requires-clause-room c = line_room c.loop-rest.invariant c.requires.room c.cut.ensures.front (search rules)
 
-pub list_line-r-requires : goal.list_line-r-requires
-list_line-r-requires c =
-    let l = c.loop-rest in
-    let g = l.invariant.1 in
-    let f = front l.rest.now _ c.until-e.ensures in
-    let short : length (take c.until-e.result l.rest.now) ≤ most_input
-    = omega (arith, ap length f, before_length line_feed l.rest.now, g.number, g.ends) in
-    (stands_test owner_of l.t g.stands, (line_room g c.requires.1 f c.loop-rest-test.true, (l.invariant.0, short)))
+pub take_line-requires-clause-short : goal.take_line-requires-clause-short
+take_line-requires-clause-short c =
+    let g = c.loop-rest.invariant in
+    omega (arith, ap length c.cut.ensures.front, before_length line_feed c.loop-rest.rest.now, g.number, g.ends)
 
-pub returns-then-r : goal.returns-then-r
-returns-then-r c =
-    let l = c.loop-rest in
-    let f = front l.rest.now _ c.until-e.ensures in
-    let r = c.list_line-r.ensures in
-    line_bad l.invariant.1 c.requires.1 f c.loop-rest-test.true r.0 r.1.0 c.if-r.true
+pub returns-in_default : goal.returns-in_default
+returns-in_default c =
+    line_bad c.loop-rest.invariant c.requires.room c.cut.ensures.front (search rules) c.take_line.ensures.reply (search rules)
 
 pub overflow_add-ended : goal.overflow_add-ended
 overflow_add-ended c =
-    let l = c.loop-rest in
-    let g = l.invariant.1 in
-    let f = front l.rest.now _ c.until-e.ensures in
-    let r = c.list_line-r.ensures in
-    omega (arith, line-ends g c.requires.1 f c.loop-rest-test.true r.0 r.1.0, g.ends, g.number)
+    let g = c.loop-rest.invariant in
+    let e = line_ends g c.requires.room c.cut.ensures.front (search rules) c.take_line.ensures.reply c.in-Some.ensures.ended in
+    omega (arith, e, g.ends, g.number)
+
+pub overflow_add-n : goal.overflow_add-n
+overflow_add-n c = omega (arith, c.loop-rest.invariant.number)
 
 pub loop-rest-smaller : goal.loop-rest-smaller
 loop-rest-smaller c =
     let s = c.loop-rest.rest.now in
-    let o = past_part s c.past-k.result c.past-k.ensures.1 in
-    omega (arith, ap length o, others_length s, c.loop-rest-test.true)
+    let some : 0 < length s = search rules in
+    omega (arith, ap length c.cut.ensures.others, others_length s, some)
 
 pub loop-rest-preserved : goal.loop-rest-preserved
 loop-rest-preserved c =
-    let l = c.loop-rest in
-    let f = front l.rest.now _ c.until-e.ensures in
-    let r = c.list_line-r.ensures in
-    let o = past_part l.rest.now _ c.past-k.ensures.1 in
-    let w = line_more l.invariant.1 c.requires.1 f c.loop-rest-test.true r.0 r.1.0 c.if-r.false r.1.1 o in
-    (c.list_line-r.auto.frame ∙ l.invariant.0, w)
+    let r = c.in-Some.ensures in
+    line_more c.loop-rest.invariant c.requires.room c.cut.ensures.front (search rules) r.reply r.ended r.table r.image c.cut.ensures.others
 
-pub put_cells-q-requires : goal.put_cells-q-requires
-put_cells-q-requires c =
-    let g = c.loop-rest.invariant.1 in
-    (cells_room g c.requires.1 (omega arith), g.size)
+pub put_cells-requires-clause-room : goal.put_cells-requires-clause-room
+put_cells-requires-clause-room c = cells_room c.loop-rest.invariant c.requires.room (search rules)
 
 pub put_end-requires : goal.put_end-requires
-put_end-requires c = end_room c.loop-rest.invariant.1 c.requires.1 (omega arith) c.put_cells-q.ensures
+put_end-requires c = end_room c.loop-rest.invariant c.requires.room (search rules) c.put_cells.ensures
 
 pub returns : goal.returns
-returns c = end_done c.loop-rest.invariant.1 c.requires.1 (omega arith) c.put_cells-q.ensures c.put_end.ensures
+returns c = end_done c.loop-rest.invariant c.requires.room (search rules) c.put_cells.ensures c.put_end.ensures

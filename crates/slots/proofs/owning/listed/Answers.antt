@@ -4,4 +4,4 @@ use Rattle.slots.specs.Sets.{slot}
 use Rattle.slots.proofs.owning.listed.Goals as goal
 
 pub returns : goal.returns
-returns c = ap slot c.wide.ensures
+returns c = ap slot c.from.ensures

@@ -1,21 +1,22 @@
--- A turn compares one register: one that differs settles the test, and otherwise one more has passed.
-use mathlib.Core.Path.{sym}
+-- Both arrays have eight registers; they are equal if each is.
+use mathlib.Core.Path.{refl, sym, ◌∙◌}
 use native.Mathlib.Omega.{arith}
-use borrow.Author.Tests.{eq-eqb, ne_eqb}
+use borrow.Author.Tests.{ne_eqb}
+use Rattle.slots.proofs.Truth.{not_both}
+use Rattle.script.specs.Scripts.{registers}
 use Rattle.script.specs.Meaning.{opening_registers}
-use Rattle.rule_one.proofs.Loops.{all_none, all_more, all_fails}
+use Rattle.seats.specs.Seats.{opened_run}
 use Rattle.soundness.specs.Tests.{at_opening}
+use Rattle.soundness.proofs.ByElement.{same_each}
 use Rattle.soundness.proofs.open.at_opening.Goals as goal
+use Rattle.soundness.proofs.open.at_opening.Goals.{then-run-eq0, else-run-eq0}
 
-pub loop-k-init : goal.loop-k-init
-loop-k-init c = (omega arith, all_none _)
-
-pub returns-then-run-k : goal.returns-then-run-k
-unfolding at_opening opening_registers
-returns-then-run-k c =
-    rw (eq-eqb _ _ c.if-run-ne0.false, eq-eqb _ _ c.if-run-ne0-2.false)
-    (sym (all_fails _ c.loop-k.k _ (ne_eqb _ _ c.if-run-k.true) (omega arith)))
-
-pub loop-k-preserved : goal.loop-k-preserved
-unfolding opening_registers
-loop-k-preserved c = (omega arith, all_more _ _ c.loop-k.invariant.1 (eq-eqb _ _ c.if-run-k.false))
+pub returns-then-run-eq0-2 : goal.returns-then-run-eq0-2
+unfolding at_opening opened_run opening_registers
+returns-then-run-eq0-2 c =
+    let same = rw c.opened.ensures at c.eq.ensures in
+    let each = same_each c.args.run.now.regs (opening_registers c.args.run.now.reading) registers (omega arith) refl in
+    elim c.if-run-eq0.branch [
+      | then-run-eq0 w ↦ rw (w.if-run-eq0.true, sym w.value-is, c.if-run-eq0-2.true) (same ∙ each)
+      | else-run-eq0 w ↦ absurd (not_both c.if-run-eq0-2.true (w.value-is ∙ ne_eqb _ _ w.if-run-eq0.false))
+    ]

@@ -1,25 +1,18 @@
--- All instructions of a script are legal. The loop's invariant: whether the script is legal is whether those from i on are. A turn takes the
--- one at i off, which settles the answer where it is not legal; at the end none is left. The array of a script has 64 places, so a script
--- of length k has k instructions.
-use Rattle.std.proofs.Common.{sym, ◌∙◌, arith, rules}
-use Rattle.script.proofs.Scripts.{length_instrs}
-use Rattle.script.proofs.Lawful.{legal-start, legal_turn, legal-end}
+-- A script is legal. The chain asks each instruction with its position, which is what the definition asks from position 0 on.
+use Rattle.std.proofs.Common.{rules, ℕ, length, ap, ◌∙◌}
+use borrow.Author.Tests.{tests}
+use Rattle.std.proofs.lemmas.Iterator.{YieldsList-from_slice}
+use Rattle.std.proofs.lemmas.Iterator.Consumers.{YieldsList-from_enumerate}
+use Rattle.std.proofs.lemmas.Iterator.Search.{all_from_yields_List}
+use Rattle.script.specs.declared.code.Instr.{Instr}
+use Rattle.script.specs.Legal.{legal_at, legal}
+use Rattle.script.proofs.Lawful.{legal_listed}
 use Rattle.script.proofs.code.Script.is_legal.Goals as goal
 
-pub loop-i-init : goal.loop-i-init
-loop-i-init c = (search rules, legal-start c.args.self c.well_formed.0.1.1.0.1.0.1 c.requires)
-
-pub returns-then-not-is_legal : goal.returns-then-not-is_legal
-returns-then-not-is_legal c =
-    let turn = legal_turn c.args.self c.well_formed.0.1.1.0.1.0.1 c.requires c.loop-i.i (search rules) in
-    sym (c.loop-i.invariant.1 ∙ turn (sym c.is_legal.ensures ∙ c.if-not-is_legal.true))
-
-pub loop-i-preserved : goal.loop-i-preserved
-loop-i-preserved c =
-    let turn = legal_turn c.args.self c.well_formed.0.1.1.0.1.0.1 c.requires c.loop-i.i (search rules) in
-    (omega arith, c.loop-i.invariant.1 ∙ turn (sym c.is_legal.ensures ∙ c.if-not-is_legal.false))
-
 pub returns : goal.returns
+unfolding legal
 returns c =
-    let n = length_instrs c.args.self c.well_formed.0.1.1.0.1.0.1 c.requires in
-    sym (c.loop-i.invariant.1 ∙ legal-end _ c.loop-i.i _ (omega (arith, n)))
+    let xs = c.instrs-code.result.now in
+    all_from_yields_List (λ (p : ℕ × Instr). legal_at (length xs) p.0 p.1) _ _ c.all.result c.all.ensures.ran
+    (YieldsList-from_enumerate (YieldsList-from_slice xs (cc)) (cc)) (λ x b q k. search (rules, tests))
+    ∙ legal_listed (length xs) 0 xs ∙ ap legal c.instrs-code.ensures
