@@ -39,6 +39,6 @@ slot_of (Access s) = s.0
 slot_of NoCell = slots
 
 -- what each answer about it says
-unfoldable pub said_slot : Option Slot → ℕ
+abbrev pub said_slot : Option Slot → ℕ
 said_slot None = slots
 said_slot (Some s) = s.0

@@ -1,4 +1,6 @@
-// What a case does to the seat, to the slot table and to the image.
+// What a case does to the seat, to the slot table and to the image. That a seat `Fits` is asked of a
+// step and not kept in a type: a seat that is handed in may break it, and after a step the six rules
+// are what says it again.
 ghost use Rattle.std.specs.Prelude.{◌≡◌, ◌≤◌};
 ghost use Rattle.seats.specs.Seats.{most_restarts, most_working};
 ghost use Rattle.runs.specs.Runs.{after_act};

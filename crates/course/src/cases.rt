@@ -1,6 +1,6 @@
 // Which case a step is.
 ghost use Rattle.std.specs.Prelude.{◌≡◌};
-ghost use Rattle.course.specs.Words.{said_word};
+ghost use Rattle.course.specs.Words.{said_word, word_bytes};
 ghost use Rattle.course.specs.Cases.{waiting, case_for, word_of};
 
 use crate::Want;
@@ -31,9 +31,12 @@ pub enum Word {
     Restarted,
 }
 
-impl fmt::Display for Word {
-    fn fmt<W: fmt::Write>(&self, f: &mut fmt::Formatter<W>) -> fmt::Result {
-        f.write_str(match self {
+impl Word {
+    #[tactic(auto, unfolding(crate::specs::Words::word_bytes))]
+    pub fn name(self) -> &'static str
+        ensures { result.now ≡ word_bytes (said_word self) }
+    {
+        match self {
             Word::Got => "got",
             Word::Blocked => "blocked",
             Word::Queued => "queued",
@@ -41,12 +44,18 @@ impl fmt::Display for Word {
             Word::Ran => "ran",
             Word::Failed => "failed",
             Word::Restarted => "restarted",
-        })
+        }
+    }
+}
+
+impl fmt::Display for Word {
+    fn fmt<W: fmt::Write>(&self, f: &mut fmt::Formatter<W>) -> fmt::Result {
+        f.write_str(self.name())
     }
 }
 
 impl Case {
-    #[tactic(auto, unfolding(crate::specs::Cases::word_of, crate::specs::Words::said_word))]
+    #[tactic(auto, unfolding(crate::specs::Cases::word_of))]
     pub fn word(self) -> Word
         ensures { said_word result ≡ word_of self }
     {

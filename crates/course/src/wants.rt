@@ -9,8 +9,8 @@ use script::{Access, Instr, Registers};
 use seats::Seat;
 use slots::{CELLS, Cell, OwnerList, Slot, listed};
 
-// A pending slot back; the end; nothing, for an instruction that accesses no cell; the slot of the
-// cell that it accesses; a cell that is not there.
+// The description's lines A to D: a pending slot back; the end; nothing, for an instruction that
+// accesses no cell; the slot of the cell that it accesses, or a cell that is not there.
 #[derive(Clone, Copy, Debug, PartialEq, Eq)]
 pub enum Want {
     Back(Slot),
@@ -22,7 +22,7 @@ pub enum Want {
 
 impl Want {
     // The slot that is wanted, if any.
-    #[tactic(auto, unfolding(crate::specs::Wants::slot_of, crate::specs::Wants::said_slot))]
+    #[tactic(auto, unfolding(crate::specs::Wants::slot_of))]
     pub fn slot(self) -> Option<Slot>
         ensures { said_slot result ≡ slot_of self }
     {

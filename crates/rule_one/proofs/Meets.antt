@@ -80,15 +80,12 @@ stays_bad (x ∷ xs) u e = stays_bad xs (met x u) (not_fine x u e)
 -- the code's answer says how it went
 module _ (u : Unmet) where
   none_if : u.fine ≡ false → if_fine u ≡ None
-  unfolding if_fine
   none_if e = rw e
 
   bad_if : if_fine u ≡ None → u.fine ≡ false
-  unfolding if_fine
   bad_if e = split u.fine (λ h. let k = rw h at e in cc) (λ h. h)
 
   fine_if : (S : SlotSet) → if_fine u ≡ Some S → u ≡ unmet true S
-  unfolding if_fine
   fine_if S e = split u.fine
       (λ h. let k = rw h at e in let seats : u.seats ≡ S = cc in λ n. record { fine = h n; seats = seats n })
       (λ h. let k = rw h at e in cc)
@@ -108,7 +105,7 @@ module _ (xs : List ℕ) (u : Unmet) (i : ℕ) (S : SlotSet) (e : met_all xs u �
   meets_twice h k = ap if_fine (next h) ∙ none_if _ (stays_bad (drop (i + 1) xs) _ (bad_if _ k))
 
   pub meets_all : length xs ≤ i → if_fine (met_all xs u) ≡ Some S
-  unfolding met_all if_fine
+  unfolding met_all
   meets_all h = ap if_fine (e ∙ ap (λ (ys : List ℕ). met_all ys (unmet true S)) (drop_of_length-le xs {i = i} h))
 
 -- ---- the queues of the first k slots, and one more
@@ -142,7 +139,6 @@ module _ (t : SlotTable) (u : Unmet) where
     waiters_twice n h g = none_if _ (waiters_bad (k + 1) n (omega arith) (ap (λ (v : Unmet). v.fine) (sym turn) ∙ bad_if _ g))
 
     pub waiters_all : (n : ℕ) → k ≡ n → if_fine (met_all (waiters t n) u) ≡ Some S
-    unfolding if_fine
     waiters_all n q = ap (λ (m : ℕ). if_fine (met_all (waiters t m) u)) (sym q) ∙ ap if_fine (sym e)
 
 -- ---- who is left over

@@ -58,7 +58,7 @@ unfoldable pub left_over : SlotTable → Unmet
 left_over t = cond (apart t.held && lengths_test t (owned t)) (met_all (waiters t slots) (unmet true all_seats)) (unmet false none)
 
 -- the code's answer: those seats, if all is fine
-unfoldable pub if_fine : Unmet → Option SlotSet
+abbrev pub if_fine : Unmet → Option SlotSet
 if_fine u = cond u.fine (Some u.seats) None
 
 unfoldable pub is_queued : SlotTable → ℕ → Bool

@@ -16,7 +16,7 @@ fn all_seats() -> SlotSet
 }
 
 // Of the seats that have not been met in a queue yet, one is met; none if it was met before.
-#[tactic(auto, unfolding(crate::specs::Tests::met, crate::specs::Tests::if_fine))]
+#[tactic(auto, unfolding(crate::specs::Tests::met))]
 fn meet(left: SlotSet, seat: u8) -> Option<SlotSet>
     ensures { result ≡ if_fine (met seat (unmet true left)) }
 {
@@ -56,7 +56,7 @@ fn lengths_sound(t: &SlotTable, owned: SlotSet) -> bool
 }
 
 // Rule 1 whole: where it holds, the seats that wait in no queue.
-#[tactic(auto, unfolding(crate::specs::Tests::left_over, crate::specs::Tests::if_fine))]
+#[tactic(auto, unfolding(crate::specs::Tests::left_over))]
 pub fn slots_sound(t: &SlotTable) -> Option<SlotSet>
     ensures { result ≡ if_fine (left_over t.now) }
 {

@@ -37,7 +37,9 @@ fn ended_sound(t: Tally) -> bool
     t.restarts <= MOST_RESTARTS && t.slots <= SLOTS && t.working <= MOST_WORKING
 }
 
-// The rule of a seat never opened, and of an ended one.
+// The rule of a seat never opened, and of an ended one. The seat, what it holds and whether it is
+// queued stay three parameters, as they are of the definition's tests: a struct of them would only be
+// taken apart again.
 pub fn blank_rule(z: &Seat, held: SlotSet, queued: bool) -> bool
     ensures { result ≡ (closed_test z.now held queued && blank_test z.now) }
 {

@@ -1,4 +1,5 @@
-// Reads a sheet from standard input and writes its listing.
+// Reads a sheet from standard input and writes its listing. The gate runs a program on one input, so
+// this is `run` once more, for another.
 #![tactic(auto)]
 
 use std::io;

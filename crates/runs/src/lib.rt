@@ -25,11 +25,12 @@ fn value_after(run: &Run, c: Cell, v: u32) -> u32
 fn seen(run: &Run, image: &[u32], c: Cell) -> u32
     ensures { result ≡ seen run.now image.now c.0 }
 {
-    let v = image.get(c.0 as usize).copied().unwrap_or(0);
+    let v = image.get(usize::from(c)).copied().unwrap_or(0);
     value_after(run, c, v)
 }
 
-// One more write is kept.
+// One more write is kept. Here and in `write_kept` not by `get_mut`: after it a proof knows how long
+// an array is, and not what is in it (tried: `returns`, `loop-w-preserved` stayed open).
 #[tactic(auto, unfolding(crate::specs::Runs::keeping))]
 fn keep(run: &mut Run, c: Cell, value: u32)
     requires position { run.old.at ≤ max_instructions }
@@ -66,7 +67,7 @@ pub fn write_kept(run: &Run, image: &mut [u32])
     ensures { image.new ≡ written (kept_writes run.now) image.old }
 {
     for w in run.kept_writes() {
-        let i = w.cell.0 as usize;
+        let i = usize::from(w.cell);
         if i < image.len() {
             image[i] = w.value;
         }

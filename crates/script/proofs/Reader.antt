@@ -91,15 +91,13 @@ module _ (f : List ℕ) where
   -- ---- the answer
 
   pub read_no : (r : Refusal) → read_refusal f ≡ number_of r → said_read (Err r) ≡ read_script f
-  unfolding said_read read_script number_in value_in
+  unfolding read_script
   read_no r e = rw (e, ne_eqb (number_of r) 0 (no_number r))
 
   pub read_none : is_frame f ≡ false → said_read (Err NoFrame) ≡ read_script f
-  unfolding number_of
   read_none e = read_no NoFrame (read_7 e)
 
   pub read_long : is_frame f ≡ true → max_instructions < length (rest f) / instr_bytes → said_read (Err TooManyInstrs) ≡ read_script f
-  unfolding number_of
   read_long e h = read_no TooManyInstrs (read_8 e h)
 
   pub read_script_lem : read_refusal f ≡ 0 → read_as 0 (script_of (decode (body f))) ≡ read_script f
@@ -107,11 +105,9 @@ module _ (f : List ℕ) where
   read_script_lem e = rw e
 
   pub read_yes : {s : Script} → s ≡ script_of (decode (rest f)) → read_refusal f ≡ 0 → said_read (Ok s) ≡ read_script f
-  unfolding said_read number_in value_in
   read_yes made e =
       ap (read_as 0) (made ∙ ap (λ (b : List ℕ). script_of (decode b)) (rest_is_body f)) ∙ read_script_lem e
 
 -- what is said tells the answer
 pub read_one : (a b : Result Script Refusal) → said_read a ≡ said_read b → a ≡ b
-unfolding said_read
 read_one a b e = one_answer blank_script a b (ap (λ (r : ReadScript). r.number) e) (ap (λ (r : ReadScript). r.script) e)

@@ -40,15 +40,14 @@ module _ (s : Script) where
   module _ (d : List ℕ) where
     pub write_no : (r : Refusal) → write_refusal s (length d) ≡ number_of r
         → (said_written (Err r) ≡ written s (length d)) × (d ≡ destination s d)
-    unfolding said_written written destination number_in value_in
+    unfolding written destination
     write_no r e = (rw (e, ne_eqb (number_of r) 0 (no_number r)), rw (e, ne_eqb (number_of r) 0 (no_number r)))
 
     pub write_script : write_refusal s (length d) ≡ 0
         → (said_written (Ok (frame_bytes s.len)) ≡ written s (length d)) × (frame_of (instrs s) ++ drop (frame_bytes s.len) d ≡ destination s d)
-    unfolding said_written written destination number_in value_in
+    unfolding written destination
     write_script e = (rw e, rw e)
 
 -- what is said tells the answer
 pub written_one : (a b : Result ℕ Refusal) → said_written a ≡ said_written b → a ≡ b
-unfolding said_written
 written_one a b e = one_answer 0 a b (ap (λ (w : Written). w.number) e) (ap (λ (w : Written). w.len) e)

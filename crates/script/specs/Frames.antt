@@ -68,7 +68,7 @@ abbrev pub read_as : ℕ → Script → ReadScript
 read_as n s = record { number = n; script = s }
 
 -- what each answer says
-unfoldable pub said_read : Result Script Refusal → ReadScript
+abbrev pub said_read : Result Script Refusal → ReadScript
 said_read a = read_as (number_in a) (value_in blank_script a)
 
 -- the script of the frame f, or a refusal's number and the blank script
@@ -90,7 +90,7 @@ pub record Written : Type 0 where
   pub len : ℕ
 
 -- what each answer says
-unfoldable pub said_written : Result ℕ Refusal → Written
+abbrev pub said_written : Result ℕ Refusal → Written
 said_written a = record { number = number_in a; len = value_in 0 a }
 
 -- how many bytes are written, or a refusal's number and none

@@ -2,7 +2,7 @@
 ghost use Rattle.std.specs.Prelude.{◌≡◌, slice_set};
 ghost use Rattle.script.specs.Meaning.{register, act_of, access_of, moved, local_of};
 
-use crate::{Instr, REGISTERS, word};
+use crate::{Instr, REGISTERS};
 use slots::Cell;
 
 pub type Registers = [u32; REGISTERS];
@@ -39,8 +39,8 @@ impl Instr {
         ensures { result ≡ access_of (act_of self regs.now) }
     {
         match self.op {
-            2 => Some(Access::Reads(self.a, Cell(word(self.b, self.c)))),
-            3 => Some(Access::Writes(Cell(word(self.b, self.c)), register(regs, self.a))),
+            2 => Some(Access::Reads(self.a, Cell(self.k16()))),
+            3 => Some(Access::Writes(Cell(self.k16()), register(regs, self.a))),
             4 => Some(Access::Reads(self.a, Cell(register(regs, self.b)))),
             5 => Some(Access::Writes(Cell(register(regs, self.b)), register(regs, self.a))),
             _ => None,
@@ -55,7 +55,7 @@ impl Instr {
         let x = register(regs, self.a);
         let y = register(regs, self.b);
         match self.op {
-            1 => set_register(regs, self.a, word(self.b, self.c)),
+            1 => set_register(regs, self.a, self.k16()),
             6 => set_register(regs, self.a, x.wrapping_add(y)),
             7 => set_register(regs, self.a, x.wrapping_sub(y)),
             8 if x < y => return usize::from(self.c),

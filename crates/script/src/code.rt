@@ -1,6 +1,6 @@
 // Instructions and scripts as values.
 ghost use Rattle.std.specs.Prelude.{◌≡◌};
-ghost use Rattle.script.specs.Scripts.{word, instrs, blank_script};
+ghost use Rattle.script.specs.Scripts.{word, k16, instrs, blank_script};
 
 use crate::MAX_INSTRUCTIONS;
 
@@ -12,7 +12,9 @@ pub struct Instr {
     pub c: u8,
 }
 
-// The first `len` of `code` are the script's instructions; what stands behind them means nothing.
+// The first `len` of `code` are the script's instructions; what stands behind them means nothing. The
+// length may say too much, and an op may be none of the eight: refusals 8 and 9 of the writer speak of
+// such scripts (Demand1), so no type shuts them out.
 #[derive(Clone, Copy, Debug, PartialEq, Eq)]
 pub struct Script {
     pub code: [Instr; MAX_INSTRUCTIONS],
@@ -26,6 +28,13 @@ impl Instr {
         b: 0,
         c: 0,
     };
+
+    // The number that b and c are.
+    pub fn k16(self) -> u32
+        ensures { result ≡ k16 self }
+    {
+        u32::from(word(self.b, self.c))
+    }
 }
 
 impl Script {
@@ -52,8 +61,8 @@ impl Script {
 
 // Two bytes, the high byte first.
 #[tactic(auto, unfolding(crate::specs::Scripts::word))]
-pub fn word(high: u8, low: u8) -> u32
+pub fn word(high: u8, low: u8) -> u16
     ensures { result ≡ word high low }
 {
-    u32::from(u16::from_be_bytes([high, low]))
+    u16::from_be_bytes([high, low])
 }

@@ -4,7 +4,7 @@ ghost use Rattle.slots.specs.Refusals.{refusal, number_in};
 ghost use Rattle.script.specs.Scripts.{instrs};
 ghost use Rattle.script.specs.Legal.{is_register, is_cell, two_registers, legal_at, legal, script_checks};
 
-use crate::{Instr, MAX_INSTRUCTIONS, REGISTERS, Script, word};
+use crate::{Instr, MAX_INSTRUCTIONS, REGISTERS, Script};
 use slots::{CELLS, Refusal};
 
 #[tactic(auto, unfolding(crate::specs::Legal::is_register))]
@@ -44,7 +44,7 @@ impl Instr {
         is_register(self.a)
             && match self.op {
                 1 => true,
-                2 | 3 => is_cell(word(self.b, self.c)),
+                2 | 3 => is_cell(self.k16()),
                 4..=7 => self.two_registers(),
                 8 => self.skip_is_legal(i, k),
                 _ => false,
@@ -63,7 +63,7 @@ impl Script {
     }
 
     // Refusal 8, 9 or none.
-    #[tactic(auto, unfolding(slots::specs::Refusals::number_in, slots::specs::Refusals::number_of, slots::specs::Refusals::refusal))]
+    #[tactic(auto, unfolding(slots::specs::Refusals::refusal))]
     pub fn check(&self) -> Result<(), Refusal>
         ensures { number_in result ≡ refusal (script_checks self.now) }
     {

@@ -14,7 +14,7 @@ fn is_frame(f: &[u8]) -> bool
         return false;
     }
     let n = f.len() - HEAD_BYTES;
-    f[0] == VERSION && word(f[1], f[2]) as usize == n && n % INSTR_BYTES == 0
+    f[0] == VERSION && usize::from(word(f[1], f[2])) == n && n % INSTR_BYTES == 0
 }
 
 // The instruction whose bytes these are.

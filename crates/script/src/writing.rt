@@ -36,13 +36,14 @@ fn put_frame(s: &Script, dst: &mut [u8]) -> usize
 {
     let code = s.instrs();
     let n = INSTR_BYTES * code.len();
+    // At most 256, which the check shows to fit.
     let [high, low] = (n as u16).to_be_bytes();
     dst[..HEAD_BYTES].copy_from_slice(&[VERSION, high, low]);
     put_body(code, &mut dst[HEAD_BYTES..HEAD_BYTES + n]);
     HEAD_BYTES + n
 }
 
-#[tactic(auto, using(crate::proofs::Writer::few), unfolding(slots::specs::Refusals::number_in))]
+#[tactic(auto, using(crate::proofs::Writer::few))]
 pub fn write_script(script: &Script, dst: &mut [u8]) -> Result<usize, Refusal>
     ensures answer { said_written result ≡ written script.now (length dst.old) }
     ensures destination { dst.new ≡ destination script.now dst.old }

@@ -4,7 +4,8 @@ ghost use Rattle.seats.specs.Queues.{no_one, entries, waits_in, joined, served, 
 
 use crate::SEATS;
 
-// The first `len` of `seats` wait; what stands behind them means nothing.
+// The first `len` of `seats` wait; what stands behind them means nothing. The length may say too much:
+// refusal 1 speaks of every table that can be handed in (Demand1).
 #[derive(Clone, Copy, Debug, PartialEq, Eq)]
 pub struct Queue {
     pub seats: [u8; SEATS],

@@ -13,7 +13,8 @@ pub struct Write {
 }
 
 // The reading given at the opening, the position, the registers, and the kept writes: the first
-// `kept` of `writes`, in their order; what stands behind them means nothing.
+// `kept` of `writes`, in their order; what stands behind them means nothing. Both numbers may say too
+// much: refusal 1 speaks of every table that can be handed in (Demand1).
 #[derive(Clone, Copy, Debug, PartialEq, Eq)]
 pub struct Run {
     pub reading: u32,

@@ -42,7 +42,7 @@ impl SlotTable {
     pub fn waits(&self, seat: u8, s: Slot) -> bool
         ensures { result ≡ waits_in (queue_of self.now s.0) seat }
     {
-        self.queues.get(s.0 as usize).is_some_and(|q| q.has(seat))
+        self.queues.get(usize::from(s)).is_some_and(|q| q.has(seat))
     }
 
     // The seat holds s too. By index, here and below: std does not say what a slice is after a
@@ -62,7 +62,7 @@ impl SlotTable {
     pub fn join(&mut self, seat: u8, s: Slot)
         ensures { self.new ≡ joined_by self.old seat s.0 }
     {
-        let k = s.0 as usize;
+        let k = usize::from(s);
         if k < SLOTS as usize {
             self.queues[k].join(seat);
         }
@@ -73,7 +73,7 @@ impl SlotTable {
     fn hand(&mut self, s: Slot)
         ensures { self.new ≡ handed self.old s.0 }
     {
-        let k = s.0 as usize;
+        let k = usize::from(s);
         if k < SLOTS as usize && self.queues[k].len != 0 {
             let head = self.queues[k].head();
             self.queues[k].serve();
@@ -81,7 +81,8 @@ impl SlotTable {
         }
     }
 
-    // The same of each slot of a set, the smallest first.
+    // The same of each slot of a set, the smallest first. An iterator over a set would be longer than
+    // this loop, the only one that takes a set apart.
     fn hand_on(&mut self, set: SlotSet)
         ensures { self.new ≡ handed_on self.old set }
     {

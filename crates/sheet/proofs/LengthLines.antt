@@ -20,7 +20,7 @@ use Rattle.table.specs.Calls.{step_call, step_refusal}
 use Rattle.text.specs.Decimal.{digits}
 use Rattle.text.proofs.Digits.{length_digits, length_one}
 use Rattle.sheet.specs.Lines.{space, line_feed, letter_o, letter_s}
-use Rattle.sheet.specs.Words.{word_bytes}
+use Rattle.course.specs.Words.{word_bytes}
 use Rattle.sheet.specs.Listings.{led, line, open_line, reply_bytes, step_line, cell_line, cell_lines, end_line, bad_line}
 
 -- the most bytes of a reply, and of a cell's line

@@ -18,7 +18,7 @@ use Rattle.sheet.proofs.ListWhole.{grants}
 -- r is answered, with n bytes of room
 module _ (s : List ℕ) (n : ℕ) (r : Result ℕ Refusal) (h : n ≡ most_listing) (e : said_listed r ≡ listed s n) where
   whole : r ≡ Ok (length (listing s))
-  unfolding said_listed listed number_in value_in
+  unfolding listed
   whole =
       let z = rw (grants n (omega arith)) at e in
       one_answer 0 r (Ok (length (listing s))) (ap (λ (x : Listed). x.number) z) (ap (λ (x : Listed). x.len) z)
@@ -27,5 +27,5 @@ module _ (s : List ℕ) (n : ℕ) (r : Result ℕ Refusal) (h : n ≡ most_listi
   not_refused = rw whole
 
   pub within : (k : ℕ) → r ≡ Ok k → k ≤ n
-  unfolding NoLonger value_in
+  unfolding NoLonger
   within k q = let z : length (listing s) ≡ k = ap (value_in 0) (sym whole ∙ q) in omega (arith, z, no_longer s, h)

@@ -18,7 +18,7 @@ pub record Listed : Type 0 where
   pub len : ℕ
 
 -- what each answer says
-unfoldable pub said_listed : Result ℕ Refusal → Listed
+abbrev pub said_listed : Result ℕ Refusal → Listed
 said_listed a = record { number = number_in a; len = value_in 0 a }
 
 -- how many bytes are written, or a refusal's number and none

@@ -9,7 +9,8 @@ use Rattle.course.specs.Words as word
 use Rattle.table.specs.Calls.{open_call, step_call, step_image}
 use Rattle.text.specs.Decimal.{digits}
 use Rattle.sheet.specs.Lines.{Item, opens, steps, bad, line_feed, space, letter_o, letter_s, is_bad, sheet}
-use Rattle.sheet.specs.Words.{header, word_bytes}
+use Rattle.course.specs.Words.{word_bytes}
+use Rattle.sheet.specs.Words.{header}
 
 -- ---- lines
 

@@ -32,7 +32,7 @@ struct World {
 
 impl World {
     // What the line l says, where it is not bad: how many transactions it ended.
-    #[tactic(auto, using(crate::proofs::ListItems::finding), unfolding(crate::specs::Lines::is_bad, crate::specs::Listings::reply_to, crate::specs::Listings::world_after, crate::specs::Listings::opened, crate::specs::Listings::stepped, crate::specs::Turns::ended_by, crate::specs::Turns::answered, table::specs::Answers::said_opened, table::specs::Answers::said_stepped))]
+    #[tactic(auto, using(crate::proofs::ListItems::finding), unfolding(crate::specs::Lines::is_bad, crate::specs::Listings::reply_to, crate::specs::Listings::world_after, crate::specs::Listings::opened, crate::specs::Listings::stepped, crate::specs::Turns::ended_by, crate::specs::Turns::answered))]
     fn follow(&mut self, page: &mut Page, l: &[u8]) -> Option<u32>
         requires room { HasRoom page.old (answered (world self.old.table self.old.image) (item_of l.now)) }
         requires short { length l.now ≤ most_input }
@@ -87,6 +87,7 @@ fn list_lines(s: &[u8], page: &mut Page)
     };
     let mut ended = 0;
     let mut n = 1;
+    // Down the bytes that are left: a line feed at the end is no empty line, as `split` would have it.
     let mut rest = s;
     while !rest.is_empty() {
         let (l, others) = cut(rest, b'\n');
@@ -117,7 +118,7 @@ fn put_listing(input: &[u8], page: &mut Page)
 
 // The listing of the sheet, at the front of dst. Refusal 14: dst is shorter than the longest
 // listing.
-#[tactic(auto, using(crate::proofs::ListWhole::wholly), unfolding(crate::specs::Calls::said_listed, crate::specs::Calls::listed, crate::specs::Calls::destination, slots::specs::Refusals::number_in, slots::specs::Refusals::value_in, slots::specs::Refusals::number_of))]
+#[tactic(auto, using(crate::proofs::ListWhole::wholly), unfolding(crate::specs::Calls::listed, crate::specs::Calls::destination))]
 pub fn list_sheet(input: &[u8], dst: &mut [u8]) -> Result<usize, Refusal>
     ensures answer { said_listed result ≡ listed input.now (length dst.old) }
     ensures destination { dst.new ≡ destination input.now dst.old }

@@ -50,7 +50,7 @@ pub fn put_bad(page: &mut Page, n: u32)
 }
 
 // How many transactions the answer ended.
-#[tactic(auto, unfolding(crate::specs::Listings::endings, table::specs::Answers::word_in, course::specs::Words::said_word))]
+#[tactic(auto, unfolding(crate::specs::Listings::endings))]
 pub fn endings(answer: Result<Word, Refusal>) -> u32
     ensures { result ≡ endings (word_in answer) }
 {

@@ -61,7 +61,6 @@ module _ (site works : List ℕ) (n : ℕ) where
       → is_sound (shelf works) ≡ true
       → MatchOption o (on_either site works n ≡ []) (λ f. 0 < length (on_either site works n))
       → number_in (ok_or o OnNeitherShelf) ≡ lookup_refusal site works n
-  unfolding number_in number_of
   answered None s w h = sym (refused_13 s w h)
   answered (Some f) s w h = sym (refused_not s w h)
 

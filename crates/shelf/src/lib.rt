@@ -13,7 +13,7 @@ use slots::{Refusal, number_in};
 pub const NUMBER_BYTES: usize = 2;
 
 // The entry at the front of a shelf: its script number, its frame as it stands, and what is behind.
-#[derive(Clone, Copy)]
+#[derive(Clone, Copy, Debug, PartialEq, Eq)]
 struct Entry<'a> {
     number: u32,
     frame: &'a [u8],
@@ -34,10 +34,10 @@ fn first_entry(s: &[u8]) -> Option<Entry<'_>>
     if *version != VERSION {
         return None;
     }
-    let frame_bytes = HEAD_BYTES + word(*body_high, *body_low) as usize;
+    let frame_bytes = HEAD_BYTES + usize::from(word(*body_high, *body_low));
     let (frame, rest) = s[NUMBER_BYTES..].split_at_checked(frame_bytes)?;
     Some(Entry {
-        number: word(*number_high, *number_low),
+        number: u32::from(word(*number_high, *number_low)),
         frame,
         rest,
     })
@@ -76,7 +76,7 @@ fn frame_on(s: &[u8], number: u32) -> Option<&[u8]>
 
 // The frame as it stands on its shelf, or refusal 12 or 13. Both shelves are checked before either
 // is searched.
-#[tactic(auto, using(crate::proofs::Refused::finding), unfolding(slots::specs::Refusals::number_in, slots::specs::Refusals::number_of))]
+#[tactic(auto, using(crate::proofs::Refused::finding))]
 pub fn find<'a>(site: &'a [u8], works: &'a [u8], number: u32) -> Result<&'a [u8], Refusal>
     ensures number { number_in result ≡ lookup_refusal site.now works.now number }
     ensures frame { IfOk result (λ f. f.now ≡ frame_found site.now works.now number) }
@@ -90,7 +90,7 @@ pub fn find<'a>(site: &'a [u8], works: &'a [u8], number: u32) -> Result<&'a [u8]
 }
 
 // The frame as it stands on its shelf, or an empty part: `lookup_refusal` then says why.
-#[tactic(auto, using(crate::proofs::Refused::refused_empty), unfolding(slots::specs::Refusals::number_in, slots::specs::Refusals::number_of))]
+#[tactic(auto, using(crate::proofs::Refused::refused_empty))]
 pub fn lookup<'a>(site: &'a [u8], works: &'a [u8], number: u32) -> &'a [u8]
     ensures { result.now ≡ frame_found site.now works.now number }
 {

@@ -18,7 +18,7 @@ refusal_with : ℕ → Refusal
 refusal_with n = get_or in_order n TableNotSound
 
 given_back : (r : Refusal) → refusal_with (number_of r) ≡ r
-unfolding number_of refusal_with in_order
+unfolding refusal_with in_order
 given_back TableNotSound = refl
 given_back ImageNotWhole = refl
 given_back SeatTooHigh = refl
@@ -38,7 +38,6 @@ pub one_number : (r q : Refusal) → number_of r ≡ number_of q → r ≡ q
 one_number r q e = sym (given_back r) ∙ ap refusal_with e ∙ given_back q
 
 pub number_given : (r : Refusal) → 0 < number_of r
-unfolding number_of
 number_given TableNotSound = omega arith
 number_given ImageNotWhole = omega arith
 number_given SeatTooHigh = omega arith
@@ -58,7 +57,6 @@ pub no_number : (r : Refusal) → number_of r ≡ 0 → ⊥
 no_number r e = let h : 0 < number_of r = number_given r in omega arith
 
 pub one_answer : {A : Type 0} (zeros : A) (x y : Result A Refusal) → number_in x ≡ number_in y → value_in zeros x ≡ value_in zeros y → x ≡ y
-unfolding number_in value_in
 one_answer zeros (Ok a) (Ok b) n v = ap Ok v
 one_answer zeros (Ok a) (Err q) n v = absurd (no_number q (sym n))
 one_answer zeros (Err r) (Ok b) n v = absurd (no_number r n)

@@ -36,18 +36,15 @@ by_not_high : (a b : ℕ) → says 0 a ≡ says 10 b → ⊥
 by_not_high a b e = let z : ◌≡◌ {A = ℕ} 0 10 = ap (λ (x : Says). x.number) e in omega arith
 
 pub said_one : (a b : Result Slot Refusal) → said a ≡ said b → a ≡ b
-unfolding said
 said_one a b e = one_answer (slot 0) a b (ap (λ (x : Says). x.number) e) (ap (λ (x : Says). slot x.value) e)
 
 pub owner_by : (c : ℕ) (s : Slot) → said (Ok s) ≡ owner_says c → (c < cells) × (s.0 ≡ owner_of c)
-unfolding said number_in value_in
 owner_by c s e =
     split (ltb c cells)
     (λ l. let h : c < cells = ltb-true c cells l in (h, ap (λ (x : Says). x.value) (e ∙ says_by c h)))
     (λ l. absurd (by_not_high s.0 0 (e ∙ says_high c (ltb-false c cells l))))
 
 pub owner_high : (c : ℕ) (r : Refusal) → said (Err r) ≡ owner_says c → cells ≤ c
-unfolding said number_in value_in
 owner_high c r e =
     split (ltb c cells)
     (λ l. absurd (no_number r (ap (λ (x : Says). x.number) (e ∙ says_by c (ltb-true c cells l)))))

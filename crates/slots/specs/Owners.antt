@@ -36,7 +36,7 @@ abbrev pub says : ℕ → ℕ → Says
 says n v = record { number = n; value = v }
 
 -- what each answer says
-unfoldable pub said : Result Slot Refusal → Says
+abbrev pub said : Result Slot Refusal → Says
 said a = says (number_in a) (value_in (slot 0) a).0
 
 -- 10, cell above 1,023

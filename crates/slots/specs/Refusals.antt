@@ -25,7 +25,7 @@ granted n value zeros = cond (eqb n 0) value zeros
 -- ---- the code's answers: a value, or a refusal
 
 -- the table of numbers
-unfoldable pub number_of : Refusal → ℕ
+abbrev pub number_of : Refusal → ℕ
 number_of TableNotSound = 1
 number_of ImageNotWhole = 2
 number_of SeatTooHigh = 3
@@ -42,11 +42,11 @@ number_of OnNeitherShelf = 13
 number_of DestinationTooShort = 14
 
 -- the number of an answer, 0 for none
-unfoldable pub number_in : {A : Type 0} → Result A Refusal → ℕ
+abbrev pub number_in : {A : Type 0} → Result A Refusal → ℕ
 number_in (Ok x) = 0
 number_in (Err r) = number_of r
 
 -- its value, or zeros
-unfoldable pub value_in : {A : Type 0} → A → Result A Refusal → A
+abbrev pub value_in : {A : Type 0} → A → Result A Refusal → A
 value_in zeros (Ok x) = x
 value_in zeros (Err r) = zeros

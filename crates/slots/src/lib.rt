@@ -4,6 +4,8 @@
 // given where a cell belongs does not build (tests/slot_for_cell).
 #![tactic(auto)]
 
+ghost use Rattle.std.specs.Prelude.{◌≡◌};
+
 mod owner_list;
 mod owning;
 mod refusals;
@@ -14,7 +16,8 @@ pub use owning::{all_owners, listed, owner};
 pub use refusals::{Refusal, number_in};
 pub use set::SlotSet;
 
-// How many cells and how many slots there are.
+// How many cells and how many slots there are. Where one is an array's length it is cast: no constant
+// can be made by `From`.
 pub const CELLS: u32 = 1024;
 
 pub const SLOTS: u32 = 64;
@@ -24,3 +27,20 @@ pub struct Cell(pub u32);
 
 #[derive(Clone, Copy, Debug, PartialEq, Eq, Hash)]
 pub struct Slot(pub u32);
+
+// Where it stands in an array. Rust has no `From<u32> for usize`, so the cast stands here once.
+impl From<Cell> for usize {
+    ghost from_gives = { λ c i. i ≡ c.0 };
+
+    fn from(c: Cell) -> usize {
+        c.0 as usize
+    }
+}
+
+impl From<Slot> for usize {
+    ghost from_gives = { λ s i. i ≡ s.0 };
+
+    fn from(s: Slot) -> usize {
+        s.0 as usize
+    }
+}

@@ -20,7 +20,7 @@ pub fn listed(list: &OwnerList, c: Cell) -> Slot
     requires { c.0 < cells }
     ensures { result ≡ slot (listed list.now c.0) }
 {
-    Slot(u32::from(list[c.0 as usize]))
+    Slot(u32::from(list[usize::from(c)]))
 }
 
 // The slot that owns a cell, or refusal 10: `said` gives the number and the value of each.

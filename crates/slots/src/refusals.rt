@@ -25,7 +25,6 @@ pub enum Refusal {
 
 impl Refusal {
     // Its number in the description's table.
-    #[tactic(auto, unfolding(crate::specs::Refusals::number_of))]
     pub fn number(self) -> u32
         ensures { result ≡ number_of self }
     {
@@ -80,7 +79,6 @@ impl fmt::Display for Refusal {
 impl Error for Refusal {}
 
 // The number of an answer: 0 where nothing is refused.
-#[tactic(auto, unfolding(crate::specs::Refusals::number_in))]
 pub fn number_in<T: Drop>(answer: Result<T, Refusal>) -> u32
     ensures { result ≡ number_in answer }
 {

@@ -28,7 +28,6 @@ restarts_few r l h e =
 
 -- nothing is refused where the number of an answer is 0
 pub ok_by_number : {A : Type 0} (r : Result A Refusal) → is_ok r ≡ eqb (number_in r) 0
-unfolding number_in
 ok_by_number (Ok x) = refl
 ok_by_number (Err r) = sym (ne_eqb _ 0 (no_number r))
 

@@ -47,11 +47,9 @@ turn own t i queued here e h =
 -- ---- the code's answer about rule 1
 
 no_answer : (u : Unmet) → if_fine u ≡ None → u.fine ≡ false
-unfolding if_fine
 no_answer u e = split u.fine (λ h. let k = rw h at e in cc) (λ h. h)
 
 answer : (u : Unmet) (S : SlotSet) → if_fine u ≡ Some S → (u.fine ≡ true) × (u.seats ≡ S)
-unfolding if_fine
 answer u S e = split u.fine (λ h. let k = rw h at e in (h, (cc))) (λ h. let k = rw h at e in cc)
 
 -- ---- a table, seat after seat

@@ -82,6 +82,7 @@ fn working_sound(r: u32, w: u32, k: usize, at: usize, p: u32, l: u32, q: bool) -
 {
     let (r, w, p, l) = (u64::from(r), u64::from(w), u64::from(p), u64::from(l));
     let rl = r * l;
+    // No `From` leads from `usize` to `u64`.
     w + 2 * p <= r * k as u64 + at as u64 + l + 2 * rl + u64::from(q)
 }
 
@@ -106,7 +107,6 @@ fn count_sound(
 
 // The slot that a seat wants, or one that is not there: nobody waits for that one. (An `Option` in
 // its place leaves `returns-in_default` of `open_sound` open, which is asked for any `here`.)
-#[tactic(auto, unfolding(course::specs::Wants::said_slot))]
 pub fn wanted(z: &Seat, owners: &OwnerList) -> Slot
     ensures { result.0 ≡ slot_of (want_of (listed owners.now) z.now) }
 {

@@ -28,6 +28,7 @@ pub fn sound(t: &Table) -> bool
         return false;
     };
     let owners = all_owners();
+    // By the seat's number, which the seat, what it holds and its place in a queue go by.
     for i in 0..SEATS as u8 {
         let z = &t.seats[usize::from(i)];
         let queued = !free.has(Slot(u32::from(i)));

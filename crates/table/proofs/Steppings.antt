@@ -46,7 +46,6 @@ module _ (own : ℕ → ℕ) (t : Table) (img : List ℕ) (i : ℕ) where
 
     pub stepped : (w : reply.Word) (z : Seat) (q : SlotTable) → turn (said_word w) z q ≡ turn_of own' (seat_at t i) t.slots img i
         → said_stepped (Ok w) (record { seats = set t.seats i z; slots = q }) ≡ step_call own t img i
-    unfolding said_stepped number_in word_in
     stepped w z q e = ap (λ (x : Turn). answer x t i) e ∙ told
 
     pub written : image_after (case_in own' (seat_at t i) t.slots i) (seat_at t i).run img ≡ step_image own t img i

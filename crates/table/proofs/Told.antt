@@ -23,7 +23,6 @@ use Rattle.table.specs.Answers.{Opened, said_opened, Stepped, word_in, said_step
 -- ---- opening
 
 pub opened_told : (x y : Result (Unit {0}) Refusal) (t u : Table) → said_opened x t ≡ said_opened y u → (x ≡ y) × (t ≡ u)
-unfolding said_opened
 opened_told x y t u e = (one_answer tt x y (ap (λ (o : Opened). o.number) e) refl, ap (λ (o : Opened). o.table) e)
 
 -- ---- step: each word is said of one reply
@@ -39,7 +38,7 @@ reply_of word.Failed = replies.Failed
 reply_of word.Restarted = replies.Restarted
 
 given_back : (w : reply.Word) → reply_of (said_word w) ≡ w
-unfolding said_word reply_of
+unfolding reply_of
 given_back replies.Got = refl
 given_back replies.Blocked = refl
 given_back replies.Queued = refl
@@ -49,12 +48,11 @@ given_back replies.Failed = refl
 given_back replies.Restarted = refl
 
 reply_in : (a : Result reply.Word Refusal) → value_in replies.Got a ≡ reply_of (word_in a)
-unfolding value_in word_in reply_of
+unfolding reply_of
 reply_in (Ok w) = sym (given_back w)
 reply_in (Err r) = refl
 
 pub stepped_told : (x y : Result reply.Word Refusal) (t u : Table) → said_stepped x t ≡ said_stepped y u → (x ≡ y) × (t ≡ u)
-unfolding said_stepped
 stepped_told x y t u e =
     let w = ap (λ (s : Stepped). reply_of s.word) e in
     (one_answer replies.Got x y (ap (λ (s : Stepped). s.number) e) (reply_in x ∙ w ∙ sym (reply_in y)), ap (λ (s : Stepped). s.table) e)
@@ -69,12 +67,11 @@ blank : report.Report
 blank = record { outcome = Blank; regs = replicate registers 0; tally = no_tally }
 
 report_number : (a : Result report.Report Refusal) → number_in a ≡ (said_report a).number
-unfolding number_in said_report
 report_number (Ok x) = refl
 report_number (Err r) = refl
 
 report_in : (a : Result report.Report Refusal) → value_in blank a ≡ report_of (said_report a)
-unfolding value_in said_report report_of blank
+unfolding report_of blank
 report_in (Ok x) = refl
 report_in (Err r) = refl
 
@@ -92,17 +89,15 @@ nobody : view.SlotView
 nobody = record { owner = None; queue = record { seats = replicate seats 0; len = 0 } }
 
 owner_back : (o : Option ℕ) → o ≡ cond (is_owned o) (Some (owner_or_0 o)) None
-unfolding is_owned owner_or_0
 owner_back None = refl
 owner_back (Some i) = refl
 
 view_number : (a : Result view.SlotView Refusal) → number_in a ≡ (said_view a).number
-unfolding number_in said_view
 view_number (Ok v) = refl
 view_number (Err r) = refl
 
 view_in : (a : Result view.SlotView Refusal) → value_in nobody a ≡ view_of (said_view a)
-unfolding value_in said_view view_of nobody
+unfolding view_of nobody
 view_in (Ok v) = ap (λ (o : Option ℕ). record { owner = o; queue = v.queue }) (owner_back v.owner)
 view_in (Err r) = refl
 
@@ -114,7 +109,6 @@ view_told x y e =
 -- ---- cell read
 
 pub cell_told : (x y : Result ℕ Refusal) → said_cell x ≡ said_cell y → x ≡ y
-unfolding said_cell
 cell_told x y e = one_answer 0 x y (ap (λ (s : CellRead). s.number) e) (ap (λ (s : CellRead). s.value) e)
 
 -- ---- so any two results that a contract allows are equal, with what they leave

@@ -22,7 +22,7 @@ pub record Opened : Type 0 where
   pub number : ℕ
   pub table : Table
 
-unfoldable pub said_opened : Result (Unit {0}) Refusal → Table → Opened
+abbrev pub said_opened : Result (Unit {0}) Refusal → Table → Opened
 said_opened a t = record { number = number_in a; table = t }
 
 -- ---- step: the reply, and the table afterwards
@@ -33,11 +33,11 @@ pub record Stepped : Type 0 where
   pub table : Table
 
 -- a refused step has no word
-unfoldable pub word_in : Result reply.Word Refusal → Word
+abbrev pub word_in : Result reply.Word Refusal → Word
 word_in (Ok w) = said_word w
 word_in (Err r) = word.None
 
-unfoldable pub said_stepped : Result reply.Word Refusal → Table → Stepped
+abbrev pub said_stepped : Result reply.Word Refusal → Table → Stepped
 said_stepped a t = record { number = number_in a; word = word_in a; table = t }
 
 -- ---- result: outcome, registers and counts
@@ -52,7 +52,7 @@ pub record Report : Type 0 where
 abbrev pub no_report : ℕ → Report
 no_report n = record { number = n; outcome = Blank; regs = replicate registers 0; tally = no_tally }
 
-unfoldable pub said_report : Result report.Report Refusal → Report
+abbrev pub said_report : Result report.Report Refusal → Report
 said_report (Ok x) = record { number = 0; outcome = x.outcome; regs = x.regs; tally = x.tally }
 said_report (Err r) = no_report (number_of r)
 
@@ -68,21 +68,21 @@ pub record SlotView : Type 0 where
 abbrev pub no_view : ℕ → SlotView
 no_view n = record { number = n; owned = false; owner = 0; queue = replicate seats 0; len = 0 }
 
-unfoldable pub is_owned : Option ℕ → Bool
+abbrev pub is_owned : Option ℕ → Bool
 is_owned None = false
 is_owned (Some i) = true
 
-unfoldable pub owner_or_0 : Option ℕ → ℕ
+abbrev pub owner_or_0 : Option ℕ → ℕ
 owner_or_0 None = 0
 owner_or_0 (Some i) = i
 
-unfoldable pub said_view : Result view.SlotView Refusal → SlotView
+abbrev pub said_view : Result view.SlotView Refusal → SlotView
 said_view (Ok v) =
     record { number = 0; owned = is_owned v.owner; owner = owner_or_0 v.owner; queue = v.queue.seats; len = v.queue.len }
 said_view (Err r) = no_view (number_of r)
 
 -- the seat that owns a slot, and 16 where none does
-unfoldable pub said_holder : Option ℕ → ℕ
+abbrev pub said_holder : Option ℕ → ℕ
 said_holder None = seats
 said_holder (Some i) = i
 
@@ -92,5 +92,5 @@ pub record CellRead : Type 0 where
   pub number : ℕ
   pub value : ℕ
 
-unfoldable pub said_cell : Result ℕ Refusal → CellRead
+abbrev pub said_cell : Result ℕ Refusal → CellRead
 said_cell a = record { number = number_in a; value = value_in 0 a }

@@ -31,13 +31,14 @@ fn is_ended(p: Phase) -> bool
     matches!(p, Phase::Committed | Phase::Failed)
 }
 
-#[tactic(auto, unfolding(crate::specs::Calls::result_call, crate::specs::Calls::result_refusal, slots::specs::Refusals::refusal, slots::specs::Refusals::number_of, crate::specs::Answers::said_report))]
+#[tactic(auto, unfolding(crate::specs::Calls::result_call, crate::specs::Calls::result_refusal, slots::specs::Refusals::refusal))]
 pub fn result(table: &Table, seat: u32) -> Result<Report, Refusal>
     ensures { said_report result ≡ result_call owner_of table.now seat }
 {
     if !soundness::sound(table) {
         return Err(Refusal::TableNotSound);
     }
+    // Cast, here and in the other calls: no `From` leads from `u32` to `usize`.
     let Some(z) = table.seats.get(seat as usize) else {
         return Err(Refusal::SeatTooHigh);
     };
@@ -69,14 +70,14 @@ fn lined_up(q: &Queue) -> Queue
     Queue { seats, len: q.len }
 }
 
-#[tactic(auto, unfolding(crate::specs::Calls::slot_view_call, crate::specs::Calls::view_refusal, slots::specs::Refusals::refusal, slots::specs::Refusals::number_of, crate::specs::Answers::said_view))]
+#[tactic(auto, unfolding(crate::specs::Calls::slot_view_call, crate::specs::Calls::view_refusal, slots::specs::Refusals::refusal))]
 pub fn slot_view(table: &Table, s: Slot) -> Result<SlotView, Refusal>
     ensures { said_view result ≡ slot_view_call owner_of table.now s.0 }
 {
     if !soundness::sound(table) {
         return Err(Refusal::TableNotSound);
     }
-    let Some(q) = table.slots.queues.get(s.0 as usize) else {
+    let Some(q) = table.slots.queues.get(usize::from(s)) else {
         return Err(Refusal::SlotTooHigh);
     };
     Ok(SlotView {
@@ -85,12 +86,15 @@ pub fn slot_view(table: &Table, s: Slot) -> Result<SlotView, Refusal>
     })
 }
 
-#[tactic(auto, unfolding(crate::specs::Calls::cell_read_call, crate::specs::Calls::cell_refusal, slots::specs::Refusals::refusal, slots::specs::Refusals::number_of, slots::specs::Refusals::number_in, slots::specs::Refusals::value_in, crate::specs::Answers::said_cell))]
+#[tactic(auto, unfolding(crate::specs::Calls::cell_read_call, crate::specs::Calls::cell_refusal, slots::specs::Refusals::refusal))]
 pub fn cell_read(image: &[u32], c: Cell) -> Result<u32, Refusal>
     ensures { said_cell result ≡ cell_read_call image.now c.0 }
 {
     if image.len() != CELLS as usize {
         return Err(Refusal::ImageNotWhole);
     }
-    image.get(c.0 as usize).copied().ok_or(Refusal::CellTooHigh)
+    image
+        .get(usize::from(c))
+        .copied()
+        .ok_or(Refusal::CellTooHigh)
 }

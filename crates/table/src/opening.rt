@@ -24,7 +24,7 @@ fn opened_seat(script: Script, reading: u32) -> Seat
 }
 
 // An opening on a table that is known to be sound, which is not tested again.
-#[tactic(auto, unfolding(crate::specs::Calls::open_call, crate::specs::Calls::open_refusal, slots::specs::Refusals::refusal, slots::specs::Refusals::number_of, slots::specs::Refusals::number_in, slots::specs::Refusals::value_in, script::specs::Frames::read_script, script::specs::Frames::read_refusal, script::specs::Frames::said_read, crate::specs::Answers::said_opened))]
+#[tactic(auto, unfolding(crate::specs::Calls::open_call, crate::specs::Calls::open_refusal, slots::specs::Refusals::refusal, script::specs::Frames::read_script, script::specs::Frames::read_refusal))]
 pub fn sound_open(table: &mut Table, seat: u32, reading: u32, frame: &[u8]) -> Result<(), Refusal>
     requires { sound_test owner_of table.old ≡ true }
     ensures { said_opened result table.new ≡ open_call owner_of table.old seat reading frame.now }
@@ -43,7 +43,7 @@ pub fn sound_open(table: &mut Table, seat: u32, reading: u32, frame: &[u8]) -> R
 }
 
 // A refusal leaves the table as it came.
-#[tactic(auto, unfolding(crate::specs::Calls::open_call, crate::specs::Calls::open_refusal, slots::specs::Refusals::refusal, slots::specs::Refusals::number_of, slots::specs::Refusals::number_in, crate::specs::Answers::said_opened))]
+#[tactic(auto, unfolding(crate::specs::Calls::open_call, crate::specs::Calls::open_refusal, slots::specs::Refusals::refusal))]
 pub fn open(table: &mut Table, seat: u32, reading: u32, frame: &[u8]) -> Result<(), Refusal>
     ensures { said_opened result table.new ≡ open_call owner_of table.old seat reading frame.now }
 {

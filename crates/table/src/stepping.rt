@@ -10,7 +10,7 @@ use seats::Table;
 use slots::{CELLS, Refusal, all_owners};
 
 // A step of a table that is known to be sound, which is not tested again.
-#[tactic(auto, unfolding(crate::specs::Calls::step_call, crate::specs::Calls::step_image, crate::specs::Calls::step_refusal, slots::specs::Refusals::refusal, slots::specs::Refusals::number_of, slots::specs::Refusals::number_in, crate::specs::Answers::word_in, crate::specs::Answers::said_stepped))]
+#[tactic(auto, unfolding(crate::specs::Calls::step_call, crate::specs::Calls::step_image, crate::specs::Calls::step_refusal, slots::specs::Refusals::refusal))]
 pub fn sound_step(table: &mut Table, image: &mut [u32], seat: u32) -> Result<Word, Refusal>
     requires { sound_test owner_of table.old ≡ true }
     ensures answer { said_stepped result table.new ≡ step_call owner_of table.old image.old seat }
@@ -38,7 +38,7 @@ pub fn sound_step(table: &mut Table, image: &mut [u32], seat: u32) -> Result<Wor
 }
 
 // A refusal leaves the table and the image as they came.
-#[tactic(auto, unfolding(crate::specs::Calls::step_call, crate::specs::Calls::step_image, crate::specs::Calls::step_refusal, slots::specs::Refusals::refusal, slots::specs::Refusals::number_of, slots::specs::Refusals::number_in, crate::specs::Answers::word_in, crate::specs::Answers::said_stepped))]
+#[tactic(auto, unfolding(crate::specs::Calls::step_call, crate::specs::Calls::step_image, crate::specs::Calls::step_refusal, slots::specs::Refusals::refusal))]
 pub fn step(table: &mut Table, image: &mut [u32], seat: u32) -> Result<Word, Refusal>
     ensures answer { said_stepped result table.new ≡ step_call owner_of table.old image.old seat }
     ensures image { image.new ≡ step_image owner_of table.old image.old seat }

@@ -43,6 +43,7 @@ impl<'a> Page<'a> {
         let mut m = n;
         while 10 <= m {
             i -= 1;
+            // A digit, which the check shows to fit, as the last one.
             found[i] = b'0' + (m % 10) as u8;
             m /= 10;
         }

@@ -10,6 +10,6 @@ pub loop-w-preserved : goal.loop-w-preserved
 loop-w-preserved c =
     let more = written_more c.kept_writes-w-items.result.now c.loop-w.w-index (omega arith) c.args.image.now in
     elim c.if-i-image.branch [
-      | then-i-image w ↦ w.image-is ∙ rw c.loop-w.invariant (sym more)
-      | else-i-image w ↦ w.image-is ∙ c.loop-w.invariant ∙ sym (more ∙ set_out _ _ _ (rw (← c.loop-w.invariant) w.if-i-image.false))
+      | then-i-image w ↦ w.image-is ∙ rw (c.loop-w.invariant, c.from-i.ensures) (sym more)
+      | else-i-image w ↦ w.image-is ∙ c.loop-w.invariant ∙ sym (more ∙ set_out _ _ _ (rw (← c.loop-w.invariant, ← c.from-i.ensures) w.if-i-image.false))
     ]

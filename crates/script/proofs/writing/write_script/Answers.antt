@@ -11,35 +11,29 @@ use Rattle.script.proofs.Writer.{write_first, write_14, write_0, write_no, write
 use Rattle.script.proofs.writing.write_script.Goals as goal
 
 pub returns-in_err-check-clause-answer : goal.returns-in_err-check-clause-answer
-unfolding number_in
 returns-in_err-check-clause-answer c =
     let p = err_from_is_err_and c.from_residual.result c.from_residual.ensures.1 in
     let r = c.in_err-check.field-0.0 in
     ap said_written (p.1 ∙ ap Err p.2) ∙ (write_no c.args.script.now c.args.dst.now r (write_first _ _ c.in_err-check.ensures (no_number r))).0
 
 pub returns-in_err-check-clause-destination : goal.returns-in_err-check-clause-destination
-unfolding number_in
 returns-in_err-check-clause-destination c =
     let r = c.in_err-check.field-0.0 in
     (write_no c.args.script.now c.args.dst.now r (write_first _ _ c.in_err-check.ensures (no_number r))).1
 
 pub returns-then-dst-script-clause-answer : goal.returns-then-dst-script-clause-answer
-unfolding number_in number_of
 returns-then-dst-script-clause-answer c =
     (write_no c.args.script.now c.args.dst.now DestinationTooShort (write_14 _ _ (sym c.in_ok-check.ensures) (omega arith))).0
 
 pub returns-then-dst-script-clause-destination : goal.returns-then-dst-script-clause-destination
-unfolding number_in number_of
 returns-then-dst-script-clause-destination c =
     (write_no c.args.script.now c.args.dst.now DestinationTooShort (write_14 _ _ (sym c.in_ok-check.ensures) (omega arith))).1
 
 pub returns-clause-answer : goal.returns-clause-answer
-unfolding number_in
 returns-clause-answer c =
     ap (λ (n : ℕ). said_written (Ok n)) c.put_frame.ensures.bytes
     ∙ (write_script c.args.script.now c.args.dst.now (write_0 _ _ (sym c.in_ok-check.ensures) (omega arith))).0
 
 pub returns-clause-destination : goal.returns-clause-destination
-unfolding number_in
 returns-clause-destination c =
     c.put_frame.ensures.frame ∙ (write_script c.args.script.now c.args.dst.now (write_0 _ _ (sym c.in_ok-check.ensures) (omega arith))).1

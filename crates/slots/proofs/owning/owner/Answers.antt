@@ -8,12 +8,11 @@ use Rattle.slots.proofs.Owners.{says_by, says_high}
 use Rattle.slots.proofs.owning.owner.Goals as goal
 
 pub returns-then-c-lt-CELLS : goal.returns-then-c-lt-CELLS
-unfolding said number_in value_in Lists
+unfolding Lists
 returns-then-c-lt-CELLS c =
     let h = c.if-c-lt-CELLS.true in
     let e = ap (λ (s : Slot). s.0) c.listed.ensures ∙ c.all_owners-list.ensures _ h in
     ap (says 0) e ∙ sym (says_by _ h)
 
 pub returns-else-c-lt-CELLS : goal.returns-else-c-lt-CELLS
-unfolding said number_in value_in number_of
 returns-else-c-lt-CELLS c = sym (says_high _ (search rules))

@@ -32,7 +32,6 @@ Found p r =
     (λ i. (0 ≤ i) × (i < seats) × (p i ≡ true) × ((k : ℕ) → 0 ≤ k → k < i → p k ≡ false))
 
 found_first : (p : ℕ → Bool) (r : Option ℕ) → Found p r → said_holder r ≡ first p seats
-unfolding said_holder
 found_first p None h = first_is seats p seats (omega arith) h (λ l. absurd (omega arith))
 found_first p (Some i) h = first_is seats p i (omega arith) h.3 (λ l. h.2)
 

@@ -13,17 +13,15 @@ use Rattle.table.specs.Calls.{slot_view_call, view_refusal}
 use Rattle.table.proofs.asking.slot_view.Goals as goal
 
 owned_if : (o : Option ℕ) → IfSome o (λ i. i < seats) → is_owned o ≡ ltb (said_holder o) seats
-unfolding said_holder is_owned
 owned_if None h = refl
 owned_if (Some i) h = sym (lt-ltb i seats h)
 
 owner_if : (o : Option ℕ) → IfSome o (λ i. i < seats) → owner_or_0 o ≡ cond (ltb (said_holder o) seats) (said_holder o) 0
-unfolding said_holder owner_or_0
 owner_if None h = refl
 owner_if (Some i) h = rw (lt-ltb i seats h)
 
 pub returns : goal.returns
-unfolding slot_view_call view_refusal refusal said_view
+unfolding slot_view_call view_refusal refusal
 returns c =
     let found = c.in-Some.ensures.lookup.3 in
     let seat = c.holder.ensures.seat in
@@ -34,5 +32,5 @@ returns c =
       owner_if c.holder.result seat,
       c.holder.ensures.first,
       c.lined_up.ensures,
-      found.1 no_queue,
+      rw c.from.ensures at (found.1 no_queue),
     )

@@ -4,7 +4,7 @@ use Rattle.std.proofs.Common.{rules, ◌≡◌, ◌∙◌, ℕ, Bool, false, Bor
 use Rattle.std.specs.Option.{MatchOption, unwrap_or, option_map}
 use Rattle.seats.specs.declared.queue.Queue.{Queue}
 use Rattle.seats.specs.Queues.{entries, waits_in}
-use Rattle.seats.specs.SlotTables.{no_queue}
+use Rattle.seats.specs.SlotTables.{no_queue, queue_of}
 use Rattle.seats.proofs.Lines.{waits_none}
 use Rattle.seats.proofs.slot_table.SlotTable.waits.Goals as goal
 
@@ -21,3 +21,4 @@ asked seat q (Some x) r Said h e f = f x e ∙ ap (λ (p : Queue). waits_in p se
 pub returns : goal.returns
 returns c =
     asked c.args.seat _ c.get.result c.is_some_and.result _ (c.get.ensures.lookup.4 (omega arith) no_queue) c.is_some_and.ensures (λ x p. search rules)
+    ∙ ap (λ (k : ℕ). waits_in (queue_of c.args.self.now k) c.args.seat) c.from.ensures
