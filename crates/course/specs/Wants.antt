@@ -42,3 +42,11 @@ slot_of NoCell = slots
 abbrev pub said_slot : Option Slot → ℕ
 said_slot None = slots
 said_slot (Some s) = s.0
+
+-- the slot that is wanted, if any
+unfoldable pub wanted : Want → Option Slot
+wanted (Back s) = Some s
+wanted End = None
+wanted Nothing = None
+wanted (Access s) = Some s
+wanted NoCell = None

@@ -30,7 +30,7 @@ fn run_on(z: &mut Seat, image: &[u32])
 {
     let x = instr_at(z);
     carry_out(&mut z.run, x, image);
-    z.tally.working += 1;
+    go_on(z, z.pending);
 }
 
 #[tactic(auto, unfolding(crate::specs::Steps::restarted))]
@@ -39,11 +39,9 @@ fn restart(z: &mut Seat, held: SlotSet, s: Slot)
     requires restarts { z.old.tally.restarts ≤ most_restarts }
     ensures { z.new ≡ restarted z.old held s.0 }
 {
-    let higher = held.above(s);
+    go_on(z, held.above(s).with(s));
     z.run = Run::opened(z.run.reading);
-    z.pending = higher.with(s);
     z.tally.restarts += 1;
-    z.tally.working += 1;
 }
 
 #[tactic(auto, unfolding(crate::specs::Steps::ended, seats::specs::Seats::blank_run))]
@@ -51,17 +49,16 @@ fn end(z: &mut Seat, held: SlotSet, phase: Phase)
     requires { z.old.tally.working ≤ most_working }
     ensures { z.new ≡ ended z.old held phase }
 {
+    go_on(z, SlotSet::EMPTY);
     z.phase = phase;
     z.run = Run {
         regs: z.run.regs,
         ..Run::BLANK
     };
-    z.pending = SlotSet::EMPTY;
-    z.tally.working += 1;
     z.tally.slots = held.count();
 }
 
-// The case of a seat that holds `held`, and reads this image.
+// Where the seat holds `held` and reads this image.
 #[tactic(auto, unfolding(crate::specs::Steps::seat_after))]
 pub fn change_seat(c: Case, z: &mut Seat, held: SlotSet, image: &[u32])
     requires { Fits z.old }

@@ -5,7 +5,6 @@ ghost use Rattle.course.specs.Cases.{waiting, case_for, word_of};
 
 use crate::Want;
 use slots::{Slot, SlotSet};
-use std::fmt;
 
 #[derive(Clone, Copy, Debug, PartialEq, Eq)]
 pub enum Case {
@@ -32,25 +31,20 @@ pub enum Word {
 }
 
 impl Word {
+    // As it stands in a listing: the description has byte strings, so there is no `Display` beside it.
     #[tactic(auto, unfolding(crate::specs::Words::word_bytes))]
-    pub fn name(self) -> &'static str
+    pub fn bytes(self) -> &'static [u8]
         ensures { result.now ≡ word_bytes (said_word self) }
     {
         match self {
-            Word::Got => "got",
-            Word::Blocked => "blocked",
-            Word::Queued => "queued",
-            Word::Committed => "committed",
-            Word::Ran => "ran",
-            Word::Failed => "failed",
-            Word::Restarted => "restarted",
+            Word::Got => b"got",
+            Word::Blocked => b"blocked",
+            Word::Queued => b"queued",
+            Word::Committed => b"committed",
+            Word::Ran => b"ran",
+            Word::Failed => b"failed",
+            Word::Restarted => b"restarted",
         }
-    }
-}
-
-impl fmt::Display for Word {
-    fn fmt<W: fmt::Write>(&self, f: &mut fmt::Formatter<W>) -> fmt::Result {
-        f.write_str(self.name())
     }
 }
 
@@ -109,7 +103,7 @@ fn case_access(s: Slot, held: SlotSet, owned: SlotSet, waits: bool) -> Case
 }
 
 // Of a seat that holds `held`, where `owned` are the slots that some seat holds, and `waits` says
-// that it is in the queue of the slot it wants.
+// that it is in the queue of the slot it wants: the three that the definition's lines ask, as it does.
 #[tactic(auto, unfolding(crate::specs::Cases::case_for))]
 pub fn case_for(w: Want, held: SlotSet, owned: SlotSet, waits: bool) -> Case
     ensures { result ≡ case_for w held owned waits }

@@ -8,4 +8,4 @@ mod wants;
 
 pub use cases::{Case, Word};
 pub use turns::take_turn;
-pub use wants::{Want, instr_at, want_of};
+pub use wants::{Want, want_of};

@@ -10,8 +10,8 @@ use crate::{Want, Word, want_of};
 use seats::{Seat, SlotTable};
 use slots::OwnerList;
 
-// The seat is in the queue of the slot that it wants. Not by `want.slot().is_some_and(..)`: of None
-// the contract there says slot 64, and that no queue 64 stands behind a `&` is not known.
+// The seat is in the queue of the slot that it wants. Not by `want.slot().is_some_and(..)`: where no
+// slot is wanted the definition asks queue 64, and behind a `&` a proof does not know that there is none.
 #[tactic(auto, unfolding(crate::specs::Steps::waits_for))]
 fn waits_for(want: Want, seat: u8, slots: &SlotTable) -> bool
     ensures { result ≡ waits_for want slots.now seat }

@@ -3,14 +3,14 @@ ghost use Rattle.std.specs.Prelude.{◌≡◌, get_or};
 ghost use Rattle.slots.specs.Owners.{listed};
 ghost use Rattle.script.specs.Scripts.{no_instr};
 ghost use Rattle.script.specs.Meaning.{act_of};
-ghost use Rattle.course.specs.Wants.{want_cell, want_act, want_of, said_slot, slot_of};
+ghost use Rattle.course.specs.Wants.{want_cell, want_act, want_of, said_slot, slot_of, wanted};
 
 use script::{Access, Instr, Registers};
 use seats::Seat;
 use slots::{CELLS, Cell, OwnerList, Slot, listed};
 
 // The description's lines A to D: a pending slot back; the end; nothing, for an instruction that
-// accesses no cell; the slot of the cell that it accesses, or a cell that is not there.
+// accesses no cell, which is a line of its own and no absence; the slot of the cell that it accesses, or a cell that is not there.
 #[derive(Clone, Copy, Debug, PartialEq, Eq)]
 pub enum Want {
     Back(Slot),
@@ -22,9 +22,10 @@ pub enum Want {
 
 impl Want {
     // The slot that is wanted, if any.
-    #[tactic(auto, unfolding(crate::specs::Wants::slot_of))]
+    #[tactic(auto, unfolding(crate::specs::Wants::slot_of, crate::specs::Wants::wanted))]
     pub fn slot(self) -> Option<Slot>
-        ensures { said_slot result ≡ slot_of self }
+        ensures number { said_slot result ≡ slot_of self }
+        ensures slot { result ≡ wanted self }
     {
         match self {
             Want::Back(s) | Want::Access(s) => Some(s),

@@ -23,10 +23,12 @@ fn open(
 }
 
 fn step(rt: &impl Print, table: &mut Table, image: &mut Image, seat: u32) -> io::Result<()> {
+    print!(rt; "s {seat} ")?;
     match table::step(table, image, seat) {
-        Ok(word) => println!(rt; "s {seat} {word}"),
-        Err(_) => println!(rt; "s {seat} no"),
+        Ok(word) => rt.write_all(word.bytes())?,
+        Err(_) => rt.write_all(b"no")?,
     }
+    rt.write_all(b"\n")
 }
 
 // Of a seat that is not ended, zeros.

@@ -1,19 +1,17 @@
 -- Rule 1 as the code goes about it. The held sets are taken from the last seat to the first, each against the union of those behind it.
 -- The queues are met one after the other, and meeting a list is meeting its entries one by one; a seat is left over after that exactly if
 -- it was there and is no entry, whether or not all went well.
-use Prim.Native.Nat.{ℕ, zero, suc, ◌+◌, ◌≤◌, ◌<◌}
-use mathlib.Core.Path.{◌≡◌, refl, sym, ap, ◌∙◌, subst}
+use Prim.Native.Nat.{ℕ, ◌+◌, ◌<◌}
+use mathlib.Core.Path.{◌≡◌, refl, sym, ap, ◌∙◌}
 use mathlib.Core.Bool.{Bool, true, false, not, cond, ◌&&◌, ◌||◌, and-true, and-false, false≢true}
 use mathlib.Core.List.{List, [], ◌∷◌, ◌++◌}
 use native.Mathlib.Omega.{arith}
 use native.Mathlib.Numerals.{add-one}
 use lib.Dec.{ltb, eqb}
-use lib.ListN.{length, drop, get_or, drop_of_length-le}
-use lib.Seq.{drop-cons}
 use Rattle.std.specs.List.{push}
-use Rattle.std.proofs.Common.{append_assoc, Some, None}
+use Rattle.std.proofs.Common.{append_assoc}
 use Rattle.std.proofs.lemmas.List.{append-nil}
-use borrow.Author.Tests.{lt-ltb, eqb-true, eqb-false, eq-eqb}
+use borrow.Author.Tests.{lt-ltb, eqb-true, eq-eqb}
 use Rattle.slots.specs.Sizes.{slots}
 use Rattle.slots.specs.declared.set.SlotSet.{SlotSet}
 use Rattle.slots.specs.Sets.{has, none, union, set_of, is_empty}
@@ -22,7 +20,7 @@ use Rattle.slots.proofs.Members.{has_set, has-removing}
 use Rattle.seats.specs.declared.slot_table.SlotTable.{SlotTable}
 use Rattle.seats.specs.Queues.{seats, entries, is_entry}
 use Rattle.seats.specs.SlotTables.{queue_of, union_of, owned}
-use Rattle.rule_one.specs.Tests.{Unmet, common, apart, waiters, all_seats, unmet, met, met_all, if_fine, lengths_test, queues_test, left_over, is_queued}
+use Rattle.rule_one.specs.Tests.{Unmet, common, apart, waiters, all_seats, unmet, met, met_all, lengths_test, queues_test, left_over, is_queued}
 
 -- ---- the held sets, from the last one on
 
@@ -61,52 +59,10 @@ module _ (hs rest : List SlotSet) (all : SlotSet) (b : Behind hs rest all) where
 
 -- ---- meeting
 
-met_append : (xs ys : List ℕ) (u : Unmet) → met_all (xs ++ ys) u ≡ met_all ys (met_all xs u)
+pub met_append : (xs ys : List ℕ) (u : Unmet) → met_all (xs ++ ys) u ≡ met_all ys (met_all xs u)
 unfolding met_all
 met_append [] ys u = refl
 met_append (x ∷ xs) ys u = met_append xs ys (met x u)
-
--- ---- once a seat was met twice
-
-not_fine : (x : ℕ) (u : Unmet) → u.fine ≡ false → (met x u).fine ≡ false
-unfolding met
-not_fine x u e = split (has u.seats x) (λ h. rw h e) (λ h. rw h)
-
-stays_bad : (xs : List ℕ) (u : Unmet) → u.fine ≡ false → (met_all xs u).fine ≡ false
-unfolding met_all
-stays_bad [] u e = e
-stays_bad (x ∷ xs) u e = stays_bad xs (met x u) (not_fine x u e)
-
--- the code's answer says how it went
-module _ (u : Unmet) where
-  none_if : u.fine ≡ false → if_fine u ≡ None
-  none_if e = rw e
-
-  bad_if : if_fine u ≡ None → u.fine ≡ false
-  bad_if e = split u.fine (λ h. let k = rw h at e in cc) (λ h. h)
-
-  fine_if : (S : SlotSet) → if_fine u ≡ Some S → u ≡ unmet true S
-  fine_if S e = split u.fine
-      (λ h. let k = rw h at e in let seats : u.seats ≡ S = cc in λ n. record { fine = h n; seats = seats n })
-      (λ h. let k = rw h at e in cc)
-
--- ---- a list is met one by one: of the seats not met, the set S is left after the first i entries
-
-module _ (xs : List ℕ) (u : Unmet) (i : ℕ) (S : SlotSet) (e : met_all xs u ≡ met_all (drop i xs) (unmet true S)) where
-  next : i < length xs → met_all xs u ≡ met_all (drop (i + 1) xs) (met (get_or xs i 0) (unmet true S))
-  unfolding met_all
-  next h = rw add-one (e ∙ ap (λ (ys : List ℕ). met_all ys (unmet true S)) (drop-cons xs i 0 h))
-
-  pub meets_more : (R : SlotSet) → i < length xs → if_fine (met (get_or xs i 0) (unmet true S)) ≡ Some R
-      → met_all xs u ≡ met_all (drop (i + 1) xs) (unmet true R)
-  meets_more R h k = next h ∙ ap (met_all (drop (i + 1) xs)) (fine_if _ R k)
-
-  pub meets_twice : i < length xs → if_fine (met (get_or xs i 0) (unmet true S)) ≡ None → if_fine (met_all xs u) ≡ None
-  meets_twice h k = ap if_fine (next h) ∙ none_if _ (stays_bad (drop (i + 1) xs) _ (bad_if _ k))
-
-  pub meets_all : length xs ≤ i → if_fine (met_all xs u) ≡ Some S
-  unfolding met_all
-  meets_all h = ap if_fine (e ∙ ap (λ (ys : List ℕ). met_all ys (unmet true S)) (drop_of_length-le xs {i = i} h))
 
 -- ---- the queues of the first k slots, and one more
 
@@ -115,31 +71,9 @@ module _ (t : SlotTable) (u : Unmet) where
   unfolding waiters met_all
   waiters_none = refl
 
-  waiters_next : (k : ℕ) → met_all (waiters t (suc k)) u ≡ met_all (entries (queue_of t k)) (met_all (waiters t k) u)
+  pub waiters_next : (k : ℕ) → met_all (waiters t (k + 1)) u ≡ met_all (entries (queue_of t k)) (met_all (waiters t k) u)
   unfolding waiters
-  waiters_next k = met_append (waiters t k) (entries (queue_of t k)) u
-
-  waiters_bad : (k n : ℕ) → k ≤ n → (met_all (waiters t k) u).fine ≡ false → (met_all (waiters t n) u).fine ≡ false
-  waiters_bad k zero h e = let q : k ≡ 0 = omega arith in subst (λ (m : ℕ). (met_all (waiters t m) u).fine ≡ false) q e
-  waiters_bad k (suc n) h e =
-      split (eqb k (suc n)) (λ q. subst (λ (m : ℕ). (met_all (waiters t m) u).fine ≡ false) (eqb-true k (suc n) q) e)
-      (λ q. let other : (k ≡ suc n → ⊥) = eqb-false k (suc n) q in
-      let before : (met_all (waiters t n) u).fine ≡ false = waiters_bad k n (omega arith) e in
-      ap (λ (v : Unmet). v.fine) (waiters_next n) ∙ stays_bad (entries (queue_of t n)) _ before)
-
-  -- after the first k queues the seats S are left
-  module _ (k : ℕ) (S : SlotSet) (e : unmet true S ≡ met_all (waiters t k) u) where
-    turn : met_all (entries (queue_of t k)) (unmet true S) ≡ met_all (waiters t (k + 1)) u
-    turn = rw add-one (ap (met_all (entries (queue_of t k))) e ∙ sym (waiters_next k))
-
-    pub waiters_more : (R : SlotSet) → if_fine (met_all (entries (queue_of t k)) (unmet true S)) ≡ Some R → unmet true R ≡ met_all (waiters t (k + 1)) u
-    waiters_more R g = sym (fine_if _ R g) ∙ turn
-
-    pub waiters_twice : (n : ℕ) → k < n → if_fine (met_all (entries (queue_of t k)) (unmet true S)) ≡ None → if_fine (met_all (waiters t n) u) ≡ None
-    waiters_twice n h g = none_if _ (waiters_bad (k + 1) n (omega arith) (ap (λ (v : Unmet). v.fine) (sym turn) ∙ bad_if _ g))
-
-    pub waiters_all : (n : ℕ) → k ≡ n → if_fine (met_all (waiters t n) u) ≡ Some S
-    waiters_all n q = ap (λ (m : ℕ). if_fine (met_all (waiters t m) u)) (sym q) ∙ ap if_fine (sym e)
+  waiters_next k = rw add-one (met_append (waiters t k) (entries (queue_of t k)) u)
 
 -- ---- who is left over
 

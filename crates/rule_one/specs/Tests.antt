@@ -1,5 +1,5 @@
 -- Rule 1 of 'A sound table' as a test. `Rules` has it in words of membership.
-use Rattle.std.specs.Prelude.{Bool, true, false, cond, ◌&&◌, ◌||◌, List, [], ◌∷◌, ◌++◌, ℕ, zero, suc, ltb, leb, eqb, Option, Some, None}
+use Rattle.std.specs.Prelude.{Bool, true, false, cond, ◌&&◌, ◌||◌, List, [], ◌∷◌, ◌++◌, ℕ, zero, suc, ltb, leb, eqb, Result, Ok, Err}
 use Rattle.slots.specs.declared.set.SlotSet.{SlotSet}
 use Rattle.slots.specs.Sizes.{slots}
 use Rattle.slots.specs.Sets.{has, set_of, none, removing, difference, is_empty}
@@ -57,9 +57,10 @@ queues_test t = lengths_test t (owned t) && (met_all (waiters t slots) (unmet tr
 unfoldable pub left_over : SlotTable → Unmet
 left_over t = cond (apart t.held && lengths_test t (owned t)) (met_all (waiters t slots) (unmet true all_seats)) (unmet false none)
 
--- the code's answer: those seats, if all is fine
-abbrev pub if_fine : Unmet → Option SlotSet
-if_fine u = cond u.fine (Some u.seats) None
+-- what a Result says of them: Ok if all is fine, Err if not, each with the seats
+abbrev pub said_unmet : Result SlotSet SlotSet → Unmet
+said_unmet (Ok O) = unmet true O
+said_unmet (Err O) = unmet false O
 
 unfoldable pub is_queued : SlotTable → ℕ → Bool
 is_queued t i = is_entry i (waiters t slots)

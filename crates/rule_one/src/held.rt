@@ -5,7 +5,7 @@ ghost use Rattle.rule_one.specs.Tests.{common, apart};
 use seats::SlotTable;
 use slots::SlotSet;
 
-// What is in both.
+// What is in both: by two differences, as the definition has it.
 #[tactic(auto, unfolding(crate::specs::Tests::common))]
 pub fn common(a: SlotSet, b: SlotSet) -> SlotSet
     ensures { result ≡ common a b }

@@ -44,7 +44,7 @@ fn keep(run: &mut Run, c: Cell, value: u32)
     run.at += 1;
 }
 
-// An instruction is carried out.
+// An instruction is carried out. The bounds are `Fits` of course, which says why it is no type.
 pub fn carry_out(run: &mut Run, x: Instr, image: &[u32])
     requires position { run.old.at ≤ max_instructions }
     requires kept { run.old.kept ≤ max_instructions }

@@ -4,6 +4,7 @@ ghost use Rattle.script.specs.Scripts.{word, k16, instrs, blank_script};
 
 use crate::MAX_INSTRUCTIONS;
 
+// An op may be none of the eight: refusal 9 speaks of it, so it is a byte.
 #[derive(Clone, Copy, Debug, PartialEq, Eq)]
 pub struct Instr {
     pub op: u8,
@@ -13,8 +14,8 @@ pub struct Instr {
 }
 
 // The first `len` of `code` are the script's instructions; what stands behind them means nothing. The
-// length may say too much, and an op may be none of the eight: refusals 8 and 9 of the writer speak of
-// such scripts (Demand1), so no type shuts them out.
+// length may say too much: refusal 8 of the writer speaks of such scripts (Demand1), so no type shuts
+// them out, and callers read the fields, so it is no generic type of n items either.
 #[derive(Clone, Copy, Debug, PartialEq, Eq)]
 pub struct Script {
     pub code: [Instr; MAX_INSTRUCTIONS],

@@ -36,8 +36,7 @@ fn put_frame(s: &Script, dst: &mut [u8]) -> usize
 {
     let code = s.instrs();
     let n = INSTR_BYTES * code.len();
-    // At most 256, which the check shows to fit.
-    let [high, low] = (n as u16).to_be_bytes();
+    let [.., high, low] = n.to_be_bytes();
     dst[..HEAD_BYTES].copy_from_slice(&[VERSION, high, low]);
     put_body(code, &mut dst[HEAD_BYTES..HEAD_BYTES + n]);
     HEAD_BYTES + n

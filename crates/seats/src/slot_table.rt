@@ -63,7 +63,7 @@ impl SlotTable {
         ensures { self.new ≡ joined_by self.old seat s.0 }
     {
         let k = usize::from(s);
-        if k < SLOTS as usize {
+        if k < self.queues.len() {
             self.queues[k].join(seat);
         }
     }
@@ -74,7 +74,7 @@ impl SlotTable {
         ensures { self.new ≡ handed self.old s.0 }
     {
         let k = usize::from(s);
-        if k < SLOTS as usize && self.queues[k].len != 0 {
+        if k < self.queues.len() && self.queues[k].len != 0 {
             let head = self.queues[k].head();
             self.queues[k].serve();
             self.take(head, s);

@@ -7,7 +7,7 @@ ghost use Rattle.sheet.specs.Lines.{line_of, opened_line, stepped_line, frame_at
 use text::{cut, read_number};
 
 // An opening with its seat, its reading and the place of its frame; a step with its seat. The hex of
-// the frame is not read yet.
+// the frame is not read yet. A place and not the rest of the line: `SameItem` speaks of it.
 #[derive(Clone, Copy, Debug, PartialEq, Eq)]
 pub enum Line {
     Open(u32, u32, usize),

@@ -1,5 +1,5 @@
 // The listing of a sheet.
-ghost use Rattle.std.specs.Prelude.{◌≡◌, ◌≤◌, [], length};
+ghost use Rattle.std.specs.Prelude.{◌≡◌, ◌≤◌, length};
 ghost use Rattle.text.specs.Pages.{HasRoom, Adds};
 ghost use Rattle.sheet.specs.Lines.{item_of, sheet};
 ghost use Rattle.sheet.specs.Listings.{world_after, reply_to, begin, list_from, listing, most_input};
@@ -31,7 +31,8 @@ struct World {
 }
 
 impl World {
-    // What the line l says, where it is not bad: how many transactions it ended.
+    // What the line l says, where it is not bad: how many transactions it ended. It knows no line
+    // number, so that `?` leaves it at each way in which a line is bad; `take_line` does.
     #[tactic(auto, using(crate::proofs::ListItems::finding), unfolding(crate::specs::Lines::is_bad, crate::specs::Listings::reply_to, crate::specs::Listings::world_after, crate::specs::Listings::opened, crate::specs::Listings::stepped, crate::specs::Turns::ended_by, crate::specs::Turns::answered))]
     fn follow(&mut self, page: &mut Page, l: &[u8]) -> Option<u32>
         requires room { HasRoom page.old (answered (world self.old.table self.old.image) (item_of l.now)) }

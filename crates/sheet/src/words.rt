@@ -1,5 +1,5 @@
 // What follows the seat in the line of a step.
-ghost use Rattle.std.specs.Prelude.{◌≡◌, ◌∷◌};
+ghost use Rattle.std.specs.Prelude.{◌∷◌};
 ghost use Rattle.slots.specs.Refusals.{number_in};
 ghost use Rattle.table.specs.Answers.{word_in};
 ghost use Rattle.text.specs.Pages.{HasRoom, Adds};
@@ -20,9 +20,9 @@ pub fn put_reply(page: &mut Page, answer: Result<Word, Refusal>)
     match answer {
         Ok(word) => {
             page.put(b" ");
-            page.put(word.name().as_bytes());
+            page.put(word.bytes());
             page.put(b"\n");
         }
-        Err(r) => put_line(page, b" no ", r.number()),
+        Err(r) => put_line(page, b" no ", u32::from(r)),
     }
 }

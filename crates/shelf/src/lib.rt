@@ -44,7 +44,7 @@ fn first_entry(s: &[u8]) -> Option<Entry<'_>>
 }
 
 // Both loops take entry after entry off the front. An iterator would have to give damage as an item
-// too, an option in an option, and makes neither of them shorter.
+// too, an option in an option, and with its ghost members is longer than the two loops (tried).
 #[tactic(auto, using(crate::proofs::Entries::turns))]
 fn is_sound(s: &[u8]) -> bool
     ensures { result ≡ is_sound (shelf s.now) }

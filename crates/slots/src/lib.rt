@@ -28,7 +28,8 @@ pub struct Cell(pub u32);
 #[derive(Clone, Copy, Debug, PartialEq, Eq, Hash)]
 pub struct Slot(pub u32);
 
-// Where it stands in an array. Rust has no `From<u32> for usize`, so the cast stands here once.
+// Where a cell, and where a slot, stands in an array. Rust has no `From<u32> for usize`, so each is
+// cast here and nowhere else.
 impl From<Cell> for usize {
     ghost from_gives = { λ c i. i ≡ c.0 };
 

@@ -23,12 +23,12 @@ pub enum Refusal {
     DestinationTooShort,
 }
 
-impl Refusal {
-    // Its number in the description's table.
-    pub fn number(self) -> u32
-        ensures { result ≡ number_of self }
-    {
-        match self {
+// Its number in the description's table.
+impl From<Refusal> for u32 {
+    ghost from_gives = { λ r n. n ≡ number_of r };
+
+    fn from(r: Refusal) -> u32 {
+        match r {
             Refusal::TableNotSound => 1,
             Refusal::ImageNotWhole => 2,
             Refusal::SeatTooHigh => 3,
@@ -44,14 +44,6 @@ impl Refusal {
             Refusal::OnNeitherShelf => 13,
             Refusal::DestinationTooShort => 14,
         }
-    }
-}
-
-impl From<Refusal> for u32 {
-    ghost from_gives = { λ r n. n ≡ number_of r };
-
-    fn from(r: Refusal) -> u32 {
-        r.number()
     }
 }
 
@@ -84,6 +76,6 @@ pub fn number_in<T: Drop>(answer: Result<T, Refusal>) -> u32
 {
     match answer {
         Ok(_) => 0,
-        Err(r) => r.number(),
+        Err(r) => u32::from(r),
     }
 }

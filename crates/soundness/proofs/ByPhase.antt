@@ -6,7 +6,7 @@ use mathlib.Core.Path.{◌≡◌, refl, sym, ap, ap₂, ◌∙◌}
 use mathlib.Core.Bool.{Bool, true, false, not}
 use mathlib.Core.List.{List}
 use borrow.Author.Tests.{not-true}
-use Rattle.std.proofs.Common.{Some, None}
+use Rattle.std.proofs.Common.{Ok, Err}
 use Rattle.slots.specs.declared.set.SlotSet.{SlotSet}
 use Rattle.slots.specs.Sets.{has}
 use Rattle.slots.specs.Owners.{listed, Lists, owner_of}
@@ -19,7 +19,7 @@ use Rattle.seats.specs.Queues.{seats, waits_in}
 use Rattle.seats.specs.SlotTables.{held_by, queue_of}
 use Rattle.seats.specs.Tables.{seat_at}
 use Rattle.course.specs.Wants.{want_of, slot_of}
-use Rattle.rule_one.specs.Tests.{Unmet, all, left_over, if_fine, is_queued}
+use Rattle.rule_one.specs.Tests.{Unmet, all, left_over, said_unmet, is_queued}
 use Rattle.rule_one.proofs.Meets.{left_fine, left_queued}
 use Rattle.soundness.specs.Tests.{wait_test, open_test, phase_test, seat_test, sound_test}
 use Rattle.soundness.proofs.Alike.{seat_alike}
@@ -44,34 +44,26 @@ turn own t i queued here e h =
     (λ q. ap₂ test e (h q))
     (λ q. ap (λ (b : Bool). test b here) q ∙ not_queued own z.phase z (held_by t.slots i) here waits ∙ ap (λ (b : Bool). test b waits) (sym q ∙ e))
 
--- ---- the code's answer about rule 1
-
-no_answer : (u : Unmet) → if_fine u ≡ None → u.fine ≡ false
-no_answer u e = split u.fine (λ h. let k = rw h at e in cc) (λ h. h)
-
-answer : (u : Unmet) (S : SlotSet) → if_fine u ≡ Some S → (u.fine ≡ true) × (u.seats ≡ S)
-answer u S e = split u.fine (λ h. let k = rw h at e in (h, (cc))) (λ h. let k = rw h at e in cc)
-
--- ---- a table, seat after seat
+-- ---- a table by the code's answer about rule 1, then seat after seat
 
 module _ (own : ℕ → ℕ) (t : Table) where
-  pub unsound : if_fine (left_over t.slots) ≡ None → sound_test own t ≡ false
+  pub unsound : (rest : SlotSet) → said_unmet (Err rest) ≡ left_over t.slots → sound_test own t ≡ false
   unfolding sound_test
-  unsound e = rw (sym (left_fine t.slots) ∙ no_answer (left_over t.slots) e)
+  unsound rest e = rw (sym (left_fine t.slots) ∙ ap (λ (u : Unmet). u.fine) (sym e))
 
   -- where rule 1 holds, the seats are left to ask
-  pub seats_left : (free : SlotSet) → if_fine (left_over t.slots) ≡ Some free → sound_test own t ≡ all (seat_test own t) seats
+  pub seats_left : (free : SlotSet) → said_unmet (Ok free) ≡ left_over t.slots → sound_test own t ≡ all (seat_test own t) seats
   unfolding sound_test
-  seats_left free e = rw (sym (left_fine t.slots) ∙ (answer (left_over t.slots) free e).0)
+  seats_left free e = rw (sym (left_fine t.slots) ∙ ap (λ (u : Unmet). u.fine) (sym e))
 
 -- a turn tests seat i: `free` is what is left over of rule 1, f says that the seat is in it, and r is what the code found by the owner list l
 pub seat_tested : (l : List ℕ) (t : Table) (i : ℕ) (free : SlotSet) (f here r : Bool) → Lists l → i < seats
-    → if_fine (left_over t.slots) ≡ Some free → f ≡ has free i
+    → said_unmet (Ok free) ≡ left_over t.slots → f ≡ has free i
     → (f ≡ false → here ≡ waits_in (queue_of t.slots (slot_of (want_of (listed l) (seat_at t i)))) i)
     → r ≡ phase_test (listed l) (seat_at t i).phase (seat_at t i) (held_by t.slots i) (not f) here
     → r ≡ seat_test owner_of t i
 unfolding Lists
 seat_tested l t i free f here r o h e q w p =
-    let said = answer (left_over t.slots) free e in
-    let queued = ap not (q ∙ ap (λ (S : SlotSet). has S i) (sym said.1)) ∙ left_queued t.slots i h said.0 in
+    let fine = ap (λ (u : Unmet). u.fine) (sym e) in
+    let queued = ap not (q ∙ ap (λ (u : Unmet). has u.seats i) e) ∙ left_queued t.slots i h fine in
     p ∙ turn (listed l) t i (not f) here queued (λ z. w (not-true f z)) ∙ seat_alike (listed l) owner_of o t i

@@ -5,4 +5,4 @@
 mod open;
 mod whole;
 
-pub use whole::{seat_sound, sound};
+pub use whole::{check, seat_sound, sound};

@@ -8,7 +8,7 @@ ghost use Rattle.soundness.specs.Tests.{cell_held, kept_test, place_test, at_ope
 
 use course::want_of;
 use rule_one::common;
-use seats::{Run, Seat, Tally};
+use seats::{Run, Seat};
 use slots::{CELLS, Cell, OwnerList, SLOTS, Slot, SlotSet, listed};
 
 #[tactic(auto, unfolding(crate::specs::Tests::cell_held))]
@@ -18,8 +18,9 @@ fn cell_held(held: SlotSet, c: Cell, owners: &OwnerList) -> bool
     c.0 < CELLS && held.has(listed(owners, c))
 }
 
-// Rule 2: the kept writes go to cells whose slots are held. (By `run.kept_writes()` the goal
-// `returns` stays open: its contract does not say that as many are there as `kept` says.)
+// Rule 2: the kept writes go to cells whose slots are held. (By `run.kept_writes()` one part of
+// `returns` stays open, `length run.now.writes ≡ max_instructions`: behind a reference to a struct no
+// proof knows how long an array is, and the contract of `kept_writes` does not say it.)
 fn kept_sound(run: &Run, held: SlotSet, owners: &OwnerList) -> bool
     requires { run.now.kept ≤ max_instructions }
     ensures { result ≡ kept_test (listed owners.now) run.now held }
@@ -75,9 +76,14 @@ fn restarts_sound(restarts: u32, l: u32) -> bool
     restarts == 0 || restarts < l
 }
 
+// The seven numbers of rule 5 by its letters, as the definition has them.
 #[tactic(auto, unfolding(crate::specs::Tests::working_test))]
 fn working_sound(r: u32, w: u32, k: usize, at: usize, p: u32, l: u32, q: bool) -> bool
-    requires { (r ≤ slots) × (k ≤ max_instructions) × (at ≤ max_instructions) × (p ≤ slots) × (l ≤ slots) }
+    requires restarts { r ≤ slots }
+    requires instructions { k ≤ max_instructions }
+    requires position { at ≤ max_instructions }
+    requires pending { p ≤ slots }
+    requires all { l ≤ slots }
     ensures { result ≡ working_test r w k at p l (cond q 1 0) }
 {
     let (r, w, p, l) = (u64::from(r), u64::from(w), u64::from(p), u64::from(l));
@@ -88,21 +94,15 @@ fn working_sound(r: u32, w: u32, k: usize, at: usize, p: u32, l: u32, q: bool) -
 
 // Rule 5.
 #[tactic(auto, using(crate::proofs::Bounds::restarts_few, slots::proofs::Counting::size_le), unfolding(crate::specs::Tests::count_test))]
-fn count_sound(
-    t: Tally,
-    k: usize,
-    at: usize,
-    held: SlotSet,
-    pending: SlotSet,
-    queued: SlotSet,
-) -> bool
-    requires { (k ≤ max_instructions) × (at ≤ max_instructions) }
-    ensures { result ≡ count_test t k at held pending queued }
+fn count_sound(z: &Seat, held: SlotSet, queued: SlotSet) -> bool
+    requires instructions { z.now.script.len ≤ max_instructions }
+    requires position { z.now.run.at ≤ max_instructions }
+    ensures { result ≡ count_test z.now.tally z.now.script.len z.now.run.at held z.now.pending queued }
 {
-    let l = held.union(pending).union(queued).count();
-    let r = t.restarts;
-    let q = held.union(queued).has(pending.smallest());
-    restarts_sound(r, l) && working_sound(r, t.working, k, at, pending.count(), l, q)
+    let l = held.union(z.pending).union(queued).count();
+    let q = held.union(queued).has(z.pending.smallest());
+    let (r, w) = (z.tally.restarts, z.tally.working);
+    restarts_sound(r, l) && working_sound(r, w, z.script.len, z.run.at, z.pending.count(), l, q)
 }
 
 // The slot that a seat wants, or one that is not there: nobody waits for that one. (An `Option` in
@@ -113,7 +113,8 @@ pub fn wanted(z: &Seat, owners: &OwnerList) -> Slot
     want_of(z, owners).slot().unwrap_or(Slot(SLOTS))
 }
 
-// What a seat wants is asked of a queued one alone.
+// Whether the seat waits at all, and `here` for the slot it wants: asked of a queued seat alone, as
+// the definition's test has it.
 #[tactic(auto, using(crate::proofs::Bounds::placed), unfolding(crate::specs::Tests::open_test, crate::specs::Tests::wait_test, crate::specs::Tests::queued_set))]
 pub fn open_sound(z: &Seat, held: SlotSet, queued: bool, here: bool, owners: &OwnerList) -> bool
     ensures { result ≡ open_test (listed owners.now) z.now held queued here }
@@ -121,18 +122,14 @@ pub fn open_sound(z: &Seat, held: SlotSet, queued: bool, here: bool, owners: &Ow
     if !place_sound(z, held, owners) || !pending_sound(&z.run, held, z.pending) {
         return false;
     }
-    let k = z.script.len;
-    if !queued {
-        return count_sound(z.tally, k, z.run.at, held, z.pending, SlotSet::EMPTY);
-    }
     let s = wanted(z, owners);
-    wait_sound(here, held, s)
-        && count_sound(
-            z.tally,
-            k,
-            z.run.at,
-            held,
-            z.pending,
-            SlotSet::EMPTY.with(s),
-        )
+    if queued && !wait_sound(here, held, s) {
+        return false;
+    }
+    let queued = if queued {
+        SlotSet::EMPTY.with(s)
+    } else {
+        SlotSet::EMPTY
+    };
+    count_sound(z, held, queued)
 }

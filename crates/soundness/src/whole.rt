@@ -1,5 +1,6 @@
 // The whole test.
-ghost use Rattle.std.specs.Prelude.{◌≡◌};
+ghost use Rattle.std.specs.Prelude.{◌≡◌, is_ok, IfErr};
+ghost use Rattle.slots.specs.declared.refusals.Refusal;
 ghost use Rattle.slots.specs.Owners.{owner_of, listed};
 ghost use Rattle.soundness.specs.Tests.{phase_test, sound_test};
 
@@ -7,9 +8,10 @@ use crate::open::{open_sound, wanted};
 use rule_one::slots_sound;
 use rule_six::{blank_rule, ended_rule};
 use seats::{Phase, SEATS, Seat, Table};
-use slots::{OwnerList, Slot, SlotSet, all_owners};
+use slots::{OwnerList, Refusal, Slot, SlotSet, all_owners};
 
-// A seat that holds `held`: whether it waits at all, and whether for the slot it wants.
+// A seat that holds `held`: whether it waits at all, and whether for the slot it wants. (`here` is
+// asked of a queued seat alone, as the definition's test has it; so the two stay apart.)
 #[tactic(auto, unfolding(crate::specs::Tests::phase_test))]
 pub fn seat_sound(z: &Seat, held: SlotSet, queued: bool, here: bool, owners: &OwnerList) -> bool
     ensures { result ≡ phase_test (listed owners.now) z.now.phase z.now held queued here }
@@ -24,11 +26,12 @@ pub fn seat_sound(z: &Seat, held: SlotSet, queued: bool, here: bool, owners: &Ow
 pub fn sound(t: &Table) -> bool
     ensures { result ≡ sound_test owner_of t.now }
 {
-    let Some(free) = slots_sound(&t.slots) else {
+    let Ok(free) = slots_sound(&t.slots) else {
         return false;
     };
     let owners = all_owners();
-    // By the seat's number, which the seat, what it holds and its place in a queue go by.
+    // By the seat's number, which the seat, what it holds and its place in a queue go by. (Cast: no
+    // `From` leads from `usize` to `u8`.)
     for i in 0..SEATS as u8 {
         let z = &t.seats[usize::from(i)];
         let queued = !free.has(Slot(u32::from(i)));
@@ -38,4 +41,15 @@ pub fn sound(t: &Table) -> bool
         }
     }
     true
+}
+
+// The same test where a call begins: refusal 1, handed on by `?`.
+pub fn check(t: &Table) -> Result<(), Refusal>
+    ensures sound { is_ok result ≡ sound_test owner_of t.now }
+    ensures refused { IfErr result (λ r. r ≡ Refusal.TableNotSound) }
+{
+    if !sound(t) {
+        return Err(Refusal::TableNotSound);
+    }
+    Ok(())
 }

@@ -35,9 +35,7 @@ fn is_ended(p: Phase) -> bool
 pub fn result(table: &Table, seat: u32) -> Result<Report, Refusal>
     ensures { said_report result ≡ result_call owner_of table.now seat }
 {
-    if !soundness::sound(table) {
-        return Err(Refusal::TableNotSound);
-    }
+    soundness::check(table)?;
     // Cast, here and in the other calls: no `From` leads from `u32` to `usize`.
     let Some(z) = table.seats.get(seat as usize) else {
         return Err(Refusal::SeatTooHigh);
@@ -52,7 +50,7 @@ pub fn result(table: &Table, seat: u32) -> Result<Report, Refusal>
     })
 }
 
-// The seat that holds s.
+// The seat that holds s. (`SEATS as u8`: a constant cannot be made by `From`.)
 fn holder(t: &SlotTable, s: Slot) -> Option<u8>
     ensures first { said_holder result ≡ holder_of t.now s.0 }
     ensures seat { IfSome result (λ i. i < seats) }
@@ -74,9 +72,7 @@ fn lined_up(q: &Queue) -> Queue
 pub fn slot_view(table: &Table, s: Slot) -> Result<SlotView, Refusal>
     ensures { said_view result ≡ slot_view_call owner_of table.now s.0 }
 {
-    if !soundness::sound(table) {
-        return Err(Refusal::TableNotSound);
-    }
+    soundness::check(table)?;
     let Some(q) = table.slots.queues.get(usize::from(s)) else {
         return Err(Refusal::SlotTooHigh);
     };

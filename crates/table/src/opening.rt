@@ -47,8 +47,6 @@ pub fn sound_open(table: &mut Table, seat: u32, reading: u32, frame: &[u8]) -> R
 pub fn open(table: &mut Table, seat: u32, reading: u32, frame: &[u8]) -> Result<(), Refusal>
     ensures { said_opened result table.new ≡ open_call owner_of table.old seat reading frame.now }
 {
-    if !soundness::sound(table) {
-        return Err(Refusal::TableNotSound);
-    }
+    soundness::check(table)?;
     sound_open(table, seat, reading, frame)
 }

@@ -28,6 +28,7 @@ pub fn sound_step(table: &mut Table, image: &mut [u32], seat: u32) -> Result<Wor
         return Err(Refusal::SeatNotOpen);
     }
     let owners = all_owners();
+    // The seat's number is below 16 here, which the check shows to fit.
     Ok(take_turn(
         &mut table.seats[i],
         &mut table.slots,
@@ -43,8 +44,6 @@ pub fn step(table: &mut Table, image: &mut [u32], seat: u32) -> Result<Word, Ref
     ensures answer { said_stepped result table.new ≡ step_call owner_of table.old image.old seat }
     ensures image { image.new ≡ step_image owner_of table.old image.old seat }
 {
-    if !soundness::sound(table) {
-        return Err(Refusal::TableNotSound);
-    }
+    soundness::check(table)?;
     sound_step(table, image, seat)
 }

@@ -1,16 +1,16 @@
 -- The digits of n are those of n / 10 and one more, or n itself: the fuel of the definition is enough for a number of 32 bits, so what holds
--- of one digit and goes on from n / 10 to n holds of all. A list that is filled from its end takes one digit after the other from the end of n.
-use Prim.Native.Nat.{ℕ, zero, suc, ◌+◌, ◌-◌, ◌/◌, ◌%◌, ◌^◌, ◌≤◌, ◌<◌}
+-- of one digit and goes on from n / 10 to n holds of all. The text that std writes for n is built in the same way, so it is the same.
+use Prim.Native.Nat.{ℕ, zero, suc, ◌+◌, ◌/◌, ◌%◌, ◌^◌, ◌≤◌, ◌<◌}
 use mathlib.Core.Path.{◌≡◌, refl, sym, ap, ◌∙◌, subst}
 use mathlib.Core.Bool.{Bool, true, false, cond}
-use mathlib.Core.List.{List, [], ◌∷◌, ◌++◌, append_assoc}
+use mathlib.Core.List.{List, [], ◌∷◌, ◌++◌}
 use native.Mathlib.Omega.{arith}
 use native.Mathlib.Nat.{pow-suc}
-use lib.ListN.{length, take, drop, set, length-append}
-use lib.Seq.{set_split, drop_at, length-take-le}
+use lib.ListN.{length, length-append}
 use lib.Dec.{ltb}
 use borrow.Author.Tests.{lt-ltb, le-ltb, ltb-true, ltb-false}
-use Rattle.std.proofs.lemmas.Grind.{common_steps}
+use Rattle.std.specs.Fmt.{decimal}
+use Rattle.std.proofs.lemmas.Fmt.{decimal_by_steps}
 use Rattle.text.specs.Decimal.{zero_byte, largest, digits_in, digits, most_digits}
 
 -- ---- one step of the definition
@@ -75,18 +75,14 @@ module _ (P : ℕ → List ℕ → Type 0) (one : (n : ℕ) → n < 10 → P n (
   unfolding digits
   by_digits n h = by_digits_in 9 n (omega arith)
 
--- ---- a list that is filled from its end
+-- ---- they are the text that std writes for n
 
-filled : (f : List ℕ) (i b : ℕ) → i < length f → drop i (set f i b) ≡ b ∷ drop (suc i) f
-filled f i b h = ap (drop i) (set_split f i b h) ∙ drop_at (take i f) (b ∷ drop (suc i) f) i (length-take-le i f (omega arith))
-
--- s is l and what is filled, and l ends with b
-module _ (s l : List ℕ) (f : List ℕ) (i : ℕ) (some : 1 ≤ i) (room : i ≤ length f) (e : s ≡ l ++ drop i f) where
-  pub filled_more : (d : List ℕ) (b : ℕ) → l ≡ d ++ (b ∷ []) → s ≡ d ++ drop (i - 1) (set f (i - 1) b)
-  filled_more d b q =
-      let n : suc (i - 1) ≡ i = omega arith in
-      let z : drop (i - 1) (set f (i - 1) b) ≡ b ∷ drop i f = filled f (i - 1) b (omega arith) ∙ ap (λ (k : ℕ). b ∷ drop k f) n in
-      e ∙ ap (λ (x : List ℕ). x ++ drop i f) q ∙ append_assoc d (b ∷ []) (drop i f) ∙ ap (λ (x : List ℕ). d ++ x) (sym z)
-
--- what the loop that fills a list with digits needs
-pub ruleset filling = (length_digits, digits_one, digits_more, length_one, length_more, filled_more, common_steps)
+pub decimal_digits : (n : ℕ) → n ≤ largest → decimal n ≡ digits n
+decimal_digits n h =
+    decimal_by_steps
+    (λ (m : ℕ) (d : List ℕ). m ≤ largest → d ≡ digits m)
+    (λ m h l. sym (digits_one m h))
+    (λ m d h e l. ap (λ (x : List ℕ). x ++ ((zero_byte + m % 10) ∷ [])) (e (omega arith)) ∙ sym (digits_more m h l))
+    n
+    (omega arith)
+    h

@@ -2,7 +2,7 @@
 ghost use Rattle.std.specs.Prelude.{◌≡◌};
 ghost use Rattle.text.specs.Decimal.{number_in};
 
-// The number that the whole of s is.
+// The number that the whole of s is. Not by `parse`, which takes a plus sign and zeros in front.
 #[tactic(auto, using(crate::proofs::Readings::reading), unfolding(crate::specs::Decimal::value_of))]
 pub fn read_number(s: &[u8]) -> Option<u32>
     ensures { result ≡ number_in s.now }

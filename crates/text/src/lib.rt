@@ -1,4 +1,5 @@
-// Decimal numbers, hex and words as bytes: read from a slice, written to a destination.
+// Bytes as text: decimal numbers and lower-case hex are read, a line is cut at a byte, and pieces and
+// decimal numbers are put into a destination.
 #![tactic(auto)]
 
 mod decimal;

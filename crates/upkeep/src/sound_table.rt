@@ -33,9 +33,7 @@ impl TryFrom<Table> for SoundTable {
     ghost try_from_gives = { Tested };
 
     fn try_from(table: Table) -> Result<Self, Refusal> {
-        if !soundness::sound(&table) {
-            return Err(Refusal::TableNotSound);
-        }
+        soundness::check(&table)?;
         Ok(SoundTable { table })
     }
 }

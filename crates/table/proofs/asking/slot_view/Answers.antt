@@ -26,7 +26,8 @@ returns c =
     let found = c.in-Some.ensures.lookup.3 in
     let seat = c.holder.ensures.seat in
     rw (
-      sym c.if-not-sound.ensures,
+      sym c.check.ensures.sound,
+      c.in_ok-check.was,
       lt-leb slots c.args.s.0 (omega arith),
       owned_if c.holder.result seat,
       owner_if c.holder.result seat,
