@@ -26,7 +26,8 @@ fn put_body(code: &[Instr], body: &mut [u8])
     }
 }
 
-// The frame of a script, at the front of dst.
+// The frame of a script, at the front of dst. `check` has said the bound; a type that said it would shut
+// out the scripts of refusal 8.
 #[tactic(auto, unfolding(crate::specs::Scripts::instrs))]
 fn put_frame(s: &Script, dst: &mut [u8]) -> usize
     requires short { s.now.len ≤ max_instructions }

@@ -7,6 +7,8 @@ ghost use Rattle.seats.specs.Queues.{waits_in};
 use crate::{Queue, SEATS};
 use slots::{SLOTS, Slot, SlotSet};
 
+// The held sets are an array of their own beside the table's seats, so that slots change hands without
+// a seat being touched; refusal 1 and `Demand1` speak of both as they are.
 #[derive(Clone, Copy, Debug, PartialEq, Eq)]
 pub struct SlotTable {
     pub held: [SlotSet; SEATS],

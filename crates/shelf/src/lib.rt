@@ -89,7 +89,8 @@ pub fn find<'a>(site: &'a [u8], works: &'a [u8], number: u32) -> Result<&'a [u8]
         .ok_or(Refusal::OnNeitherShelf)
 }
 
-// The frame as it stands on its shelf, or an empty part: `lookup_refusal` then says why.
+// The frame as it stands on its shelf, or an empty part: `lookup_refusal` then says why. The description
+// has these two, which is why they stand beside `find`, with its three parameters.
 #[tactic(auto, using(crate::proofs::Refused::refused_empty))]
 pub fn lookup<'a>(site: &'a [u8], works: &'a [u8], number: u32) -> &'a [u8]
     ensures { result.now ≡ frame_found site.now works.now number }

@@ -80,6 +80,7 @@ impl SlotSet {
         self.0.count_ones()
     }
 
+    // 64 of the empty set: so say trailing zeros, the form that the description names, and the definition.
     pub fn smallest(self) -> Slot
         ensures { result ≡ slot (smallest self) }
     {

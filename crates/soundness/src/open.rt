@@ -92,7 +92,8 @@ fn working_sound(r: u32, w: u32, k: usize, at: usize, p: u32, l: u32, q: bool) -
     w + 2 * p <= r * k as u64 + at as u64 + l + 2 * rl + u64::from(q)
 }
 
-// Rule 5.
+// Rule 5. The two bounds are asked and kept in no type: rule 2, which is tested first, says them, and
+// those of `working_sound` keep its sum within 64 bits.
 #[tactic(auto, using(crate::proofs::Bounds::restarts_few, slots::proofs::Counting::size_le), unfolding(crate::specs::Tests::count_test))]
 fn count_sound(z: &Seat, held: SlotSet, queued: SlotSet) -> bool
     requires instructions { z.now.script.len ≤ max_instructions }

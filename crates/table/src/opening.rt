@@ -23,7 +23,8 @@ fn opened_seat(script: Script, reading: u32) -> Seat
     }
 }
 
-// An opening on a table that is known to be sound, which is not tested again.
+// An opening on a table that is known to be sound, which is not tested again. A clause says so and no
+// type: `SoundTable` rests on this call, and its invariant on upkeep, which stands above.
 #[tactic(auto, unfolding(crate::specs::Calls::open_call, crate::specs::Calls::open_refusal, slots::specs::Refusals::refusal, script::specs::Frames::read_script, script::specs::Frames::read_refusal))]
 pub fn sound_open(table: &mut Table, seat: u32, reading: u32, frame: &[u8]) -> Result<(), Refusal>
     requires { sound_test owner_of table.old ≡ true }

@@ -9,7 +9,7 @@ use course::{Word, take_turn};
 use seats::Table;
 use slots::{CELLS, Refusal, all_owners};
 
-// A step of a table that is known to be sound, which is not tested again.
+// A step of a table that is known to be sound, which is not tested again: a clause, as of `sound_open`.
 #[tactic(auto, unfolding(crate::specs::Calls::step_call, crate::specs::Calls::step_image, crate::specs::Calls::step_refusal, slots::specs::Refusals::refusal))]
 pub fn sound_step(table: &mut Table, image: &mut [u32], seat: u32) -> Result<Word, Refusal>
     requires { sound_test owner_of table.old ≡ true }
