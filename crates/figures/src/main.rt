@@ -12,7 +12,12 @@ use std::io;
 const LONGEST: usize = 263;
 
 fn owner(rt: &impl Print, name: &str, cell: u32, expected: u32) -> io::Result<()> {
-    tell::figure(rt, name, number_in(slots::owner(Cell(cell))), expected)
+    tell::figure(
+        rt,
+        name.as_bytes(),
+        number_in(slots::owner(Cell(cell))),
+        expected,
+    )
 }
 
 fn owners(rt: &impl Print) -> io::Result<()> {
@@ -22,7 +27,7 @@ fn owners(rt: &impl Print) -> io::Result<()> {
 }
 
 fn read(rt: &impl Print, name: &str, frame: &[u8], expected: u32) -> io::Result<()> {
-    tell::figure(rt, name, number_in(read_script(frame)), expected)
+    tell::figure(rt, name.as_bytes(), number_in(read_script(frame)), expected)
 }
 
 fn frames(rt: &impl Print) -> io::Result<()> {
@@ -91,8 +96,13 @@ fn write(
 ) -> io::Result<()> {
     let frame = b"\x01\x00\x08\x03\x00\x00\x08\x03\x00\x00\x00";
     let script = read_script(frame).unwrap_or(Script::BLANK);
-    tell::figure(rt, name, number_in(write_script(&script, dst)), number)?;
-    tell::part(rt, "the destination", dst, expected)
+    tell::figure(
+        rt,
+        name.as_bytes(),
+        number_in(write_script(&script, dst)),
+        number,
+    )?;
+    tell::part(rt, b"the destination", dst, expected)
 }
 
 fn written(rt: &impl Print) -> io::Result<()> {

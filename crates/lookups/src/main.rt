@@ -16,7 +16,7 @@ fn found(
 ) -> io::Result<()> {
     tell::figure(
         rt,
-        name,
+        name.as_bytes(),
         shelf::lookup_refusal(site, works, number),
         expected,
     )
@@ -25,13 +25,13 @@ fn found(
 fn whole_shelves(rt: &impl Print, site: &[u8], works: &[u8]) -> io::Result<()> {
     tell::part(
         rt,
-        "number 2, twice on the site's shelf",
+        b"number 2, twice on the site's shelf",
         shelf::lookup(site, works, 2),
         b"\x01\x00\x01\x09",
     )?;
     tell::part(
         rt,
-        "number 7, on the works shelf",
+        b"number 7, on the works shelf",
         shelf::lookup(site, works, 7),
         b"\x01\x00\x02\x05\x06",
     )?;
@@ -50,7 +50,7 @@ fn damaged_shelves(rt: &impl Print, site: &[u8], works: &[u8]) -> io::Result<()>
         2,
         12,
     )?;
-    tell::part(rt, "its part", shelf::lookup(site, cut, 2), b"")?;
+    tell::part(rt, b"its part", shelf::lookup(site, cut, 2), b"")?;
     found(
         rt,
         "an entry of the site's shelf cut short by one byte",
@@ -81,7 +81,7 @@ fn long_body(rt: &impl Print) -> io::Result<()> {
     s[2] = script::VERSION;
     tell::figure(
         rt,
-        "bytes of a frame whose body has 65535",
+        b"bytes of a frame whose body has 65535",
         shelf::lookup(&s, b"", 65535).len(),
         65538,
     )?;

@@ -1,6 +1,7 @@
--- The code asks by `==` whether a script, a run or a tally is the blank one. That compares field by field in the order of the declaration, and
--- an array element by element from the first; the definition asks the same in an order of its own. An array of n elements is that of n equal
--- ones if and only if each element below n is that one.
+-- An instruction, a write and a tally are compared with the blank one by `==`, field by field in the order of the declaration; the definition
+-- asks the same in an order of its own. The elements of an array are asked as a list, from the first on, and the definition asks each below n:
+-- where the list has n elements, one passes if and only if the other does (`each`). So too for a whole script and a whole run by `==`
+-- (`script_is`, `run_is`): an array of n elements is that of n equal ones if and only if each element below n is that one.
 use Prim.Native.Nat.{ℕ, zero, suc}
 use mathlib.Core.Path.{◌≡◌, refl, sym, ap, ap₂, ◌∙◌}
 use mathlib.Core.Bool.{Bool, true, false, ◌&&◌, and-true, and-false}
@@ -9,6 +10,7 @@ use native.Mathlib.Omega.{arith}
 use lib.Dec.{eqb}
 use lib.ListN.{length, get_or, replicate}
 use lib.Pointwise.{pointwise}
+use Rattle.std.specs.List.{list_all}
 use Rattle.script.specs.declared.code.Instr.{Instr}
 use Rattle.script.specs.declared.code.Script.{Script}
 use Rattle.script.specs.Scripts.{max_instructions, registers, no_instr}
@@ -46,6 +48,14 @@ array_all E d test h (x ∷ xs) zero e = absurd (omega arith)
 array_all E d test h (x ∷ xs) (suc n) e =
     rw (h x, array_all E d test h xs n (omega arith)) (sym (all_front (λ k. test (get_or (x ∷ xs) k d)) n))
 
+pub each : {A : Type 0} (test : A → Bool) (d : A) (xs : List A) (n : ℕ) → length xs ≡ n → list_all test xs ≡ all (λ k. test (get_or xs k d)) n
+unfolding all
+each test d [] zero e = refl
+each test d [] (suc n) e = absurd (omega arith)
+each test d (x ∷ xs) zero e = absurd (omega arith)
+each test d (x ∷ xs) (suc n) e =
+    ap (λ (b : Bool). test x && b) (each test d xs n (omega arith)) ∙ sym (all_front (λ k. test (get_or (x ∷ xs) k d)) n)
+
 -- ---- a script, a run, a tally
 
 abbrev same_instr : Instr → Instr → Bool
@@ -54,7 +64,7 @@ same_instr x y = eqb x.op y.op && (eqb x.a y.a && (eqb x.b y.b && eqb x.c y.c))
 abbrev same_write : Write → Write → Bool
 same_write w v = eqb w.cell.0 v.cell.0 && eqb w.value v.value
 
-instr_is : (x : Instr) → same_instr x no_instr ≡ is_no_instr x
+pub instr_is : (x : Instr) → same_instr x no_instr ≡ is_no_instr x
 unfolding is_no_instr
 instr_is x = same_four (eqb x.op 0) (eqb x.a 0) (eqb x.b 0) (eqb x.c 0)
 

@@ -36,18 +36,19 @@ impl Instr {
         is_register(self.b) && i < k && usize::from(self.c) < k - i
     }
 
-    // Legal at position i of k instructions.
+    // Legal at position i of k instructions. No `match` on the op: its table of jumps costs a script of ops 4 to
+    // 7 up to half as much again.
     #[tactic(auto, unfolding(crate::specs::Legal::legal_at))]
     fn is_legal(self, i: usize, k: usize) -> bool
         ensures { result ≡ legal_at k i self }
     {
         is_register(self.a)
-            && match self.op {
-                1 => true,
-                2 | 3 => is_cell(self.k16()),
-                4..=7 => self.two_registers(),
-                8 => self.skip_is_legal(i, k),
-                _ => false,
+            && if self.op < 4 {
+                self.op == 1 || (1 < self.op && is_cell(self.k16()))
+            } else if self.op < 8 {
+                self.two_registers()
+            } else {
+                self.op == 8 && self.skip_is_legal(i, k)
             }
     }
 }

@@ -1,6 +1,6 @@
 // The script reader: the bytes of a frame to a script.
 ghost use Rattle.std.specs.Prelude.{◌≡◌, ◌*◌, ◌≤◌, length};
-ghost use Rattle.script.specs.Scripts.{max_instructions, instr_bytes, script_of};
+ghost use Rattle.script.specs.Scripts.{max_instructions, instr_bytes, blank_script, script_of};
 ghost use Rattle.script.specs.Frames.{is_frame, instr_at, decode, said_read, read_script};
 
 use crate::{HEAD_BYTES, INSTR_BYTES, Instr, MAX_INSTRUCTIONS, Script, VERSION, word};
@@ -31,19 +31,19 @@ fn instr_in(bytes: &[u8]) -> Instr
     }
 }
 
-// The k instructions of a frame's body. Not through `iter_mut` and `zip`: after them a proof knows
-// the array's length and no instruction (`returns`).
-fn script_in(body: &[u8], k: usize) -> Script
+// The k instructions of a frame's body, in a blank script that is lent: one that came back by value would be
+// copied once more. Not through `iter_mut` and `zip`: after them a proof knows the array's length and no
+// instruction (`returns`).
+fn script_in(script: &mut Script, body: &[u8], k: usize)
+    requires blank { script.old ≡ blank_script }
     requires short { k ≤ max_instructions }
     requires whole { length body.now ≡ instr_bytes * k }
-    ensures { result ≡ script_of (decode body.now) }
+    ensures { script.new ≡ script_of (decode body.now) }
 {
-    let mut script = Script::BLANK;
     script.len = k;
     for (i, bytes) in body.chunks_exact(INSTR_BYTES).enumerate() {
         script.code[i] = instr_in(bytes);
     }
-    script
 }
 
 #[tactic(auto, using(crate::proofs::Reader::framed, crate::proofs::Reader::whole, crate::proofs::Reader::read_none, crate::proofs::Reader::read_long))]
@@ -58,7 +58,8 @@ pub fn read_script(frame: &[u8]) -> Result<Script, Refusal>
     if MAX_INSTRUCTIONS < k {
         return Err(Refusal::TooManyInstrs);
     }
-    let script = script_in(body, k);
+    let mut script = Script::blank();
+    script_in(&mut script, body, k);
     script.check()?;
     Ok(script)
 }

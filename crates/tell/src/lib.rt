@@ -1,4 +1,4 @@
-// Lines for the programs that compare what comes with what should come.
+// Lines for the programs that compare what comes with what should come. A name is any bytes.
 #![tactic(auto)]
 
 use std::fmt::Display;
@@ -7,23 +7,25 @@ use std::io;
 // One line: what it is, what came, and what should have come where that is something else.
 pub fn figure<T: Display + PartialEq + Drop>(
     rt: &impl Print,
-    name: &str,
+    name: &[u8],
     came: T,
     expected: T,
 ) -> io::Result<()> {
+    rt.write_all(name)?;
     if came == expected {
-        println!(rt; "{name}: {came}")
+        println!(rt; ": {came}")
     } else {
-        println!(rt; "{name}: {came}, and it should be {expected}")
+        println!(rt; ": {came}, and it should be {expected}")
     }
 }
 
 // One line: whether the part that came is the one expected.
-pub fn part(rt: &impl Print, name: &str, came: &[u8], expected: &[u8]) -> io::Result<()> {
+pub fn part(rt: &impl Print, name: &[u8], came: &[u8], expected: &[u8]) -> io::Result<()> {
     let verdict = if came == expected {
         "as it stands"
     } else {
         "another part"
     };
-    println!(rt; "{name}: {verdict}")
+    rt.write_all(name)?;
+    println!(rt; ": {verdict}")
 }

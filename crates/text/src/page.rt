@@ -29,13 +29,18 @@ impl<'a> Page<'a> {
         self.at = end;
     }
 
-    // The decimal digits of n, in the same way.
-    #[tactic(auto, using(crate::proofs::Digits::decimal_digits))]
+    // The decimal digits of n, in the same way. A single digit, such as most seats and refusals have, without
+    // the buffer: to make one takes as long as the rest.
+    #[tactic(auto, using(crate::proofs::Digits::decimal_digits, crate::proofs::Digits::digits_one))]
     pub fn put_u32(&mut self, n: u32)
         ensures same_reference { self.new.dst.ghost_name ≡ self.old.dst.ghost_name }
         ensures place { self.new.at ≡ next self.old.dst.now self.old.at (digits n) }
         ensures bytes { self.new.dst.now ≡ put self.old.dst.now self.old.at (digits n) }
     {
+        if n < 10 {
+            self.put(&[b'0' + n as u8]);
+            return;
+        }
         let mut buffer = Buffer::new();
         self.put(buffer.format(n).as_bytes());
     }

@@ -13,8 +13,8 @@ pub returns-in_err-check : goal.returns-in_err-check
 returns-in_err-check c =
     let p = err_from_is_err_and c.from_residual.result c.from_residual.ensures.1 in
     ap said_read (p.1 ∙ ap Err p.2)
-    ∙ read_no _ c.in_err-check.field-0.0 (read_rest _ (sym c.if-not-is_frame.ensures) c.script_in-script.ensures ∙ sym c.in_err-check.ensures)
+    ∙ read_no _ c.in_err-check.field-0.0 (read_rest _ (sym c.if-not-is_frame.ensures) c.script_in.ensures ∙ sym c.in_err-check.ensures)
 
 pub returns : goal.returns
 returns c =
-    read_yes _ c.script_in-script.ensures (read_rest _ (sym c.if-not-is_frame.ensures) c.script_in-script.ensures ∙ sym c.in_ok-check.ensures)
+    read_yes _ c.script_in.ensures (read_rest _ (sym c.if-not-is_frame.ensures) c.script_in.ensures ∙ sym c.in_ok-check.ensures)

@@ -1,11 +1,18 @@
 -- The instructions of a body. A turn takes four bytes off what is left and stores the instruction that they are (`held_more`); where no four
 -- bytes are left, all k have come.
-use Rattle.std.proofs.Common.{◌≡◌, ◌*◌, sym, ap, ◌∙◌, arith, length, length-drop}
+use Rattle.std.proofs.Common.{rules, ◌≡◌, ◌*◌, sym, ap, ◌∙◌, arith, length, length-drop, replicate}
 use Rattle.std.specs.Iterator.Adapters.{enumerate_source, enumerate_count}
 use Rattle.std.specs.Slice.Iter.{chunks_exact_rest}
-use Rattle.script.specs.Scripts.{instr_bytes}
+use Rattle.script.specs.declared.code.Script.{Script}
+use Rattle.script.specs.Scripts.{max_instructions, no_instr, instr_bytes, blank_script}
 use Rattle.script.proofs.Frames.{held, four_fit, left_next, held_more, held_all}
 use Rattle.script.proofs.reading.script_in.Goals as goal
+
+pub loop-i-init : goal.loop-i-init
+unfolding blank_script
+loop-i-init c =
+    let blank : c.args.script.now.code ≡ replicate max_instructions no_instr = ap (λ (s : Script). s.code) c.requires.blank in
+    search rules
 
 pub loop-i-preserved : goal.loop-i-preserved
 loop-i-preserved c =

@@ -14,4 +14,4 @@ sound_open-requires c = stands_test owner_of _ c.self.invariant
 pub invariant_of-self : goal.invariant_of-self
 invariant_of-self c =
     let left = ap (λ (x : Opened). x.table) c.sound_open.ensures in
-    subst (Stands owner_of) (sym left) (open_stands owner_of _ owners_kept c.self.invariant c.args.seat c.args.reading c.args.frame.now)
+    subst (Stands owner_of) (sym left) (open_stands owner_of _ owners_kept c.self.invariant c.args.seat _ c.args.frame.now)

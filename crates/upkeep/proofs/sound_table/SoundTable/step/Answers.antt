@@ -14,4 +14,4 @@ sound_step-requires c = stands_test owner_of _ c.self.invariant
 pub invariant_of-self : goal.invariant_of-self
 invariant_of-self c =
     let left = ap (λ (x : Stepped). x.table) c.sound_step.ensures.answer in
-    subst (Stands owner_of) (sym left) (step_stands owner_of _ owners_kept c.self.invariant c.args.image.now c.args.seat)
+    subst (Stands owner_of) (sym left) (step_stands owner_of _ owners_kept c.self.invariant c.args.image.now _)
