@@ -40,4 +40,5 @@ pub mod FiguresHold
 pub mod ShamReplies
 pub mod ShamCounts
 pub mod ShamsOut
+pub mod SettledCalls
 pub mod Promised

@@ -1,7 +1,7 @@
 -- An instruction, a write and a tally are compared with the blank one by `==`, field by field in the order of the declaration; the definition
 -- asks the same in an order of its own. The elements of an array are asked as a list, from the first on, and the definition asks each below n:
--- where the list has n elements, one passes if and only if the other does (`each`). So too for a whole script and a whole run by `==`
--- (`script_is`, `run_is`): an array of n elements is that of n equal ones if and only if each element below n is that one.
+-- where the list has n elements, one passes if and only if the other does (`each`). So too for a whole script and a whole run by `==`,
+-- which no code asks today (`script_is`, `run_is`): an array of n elements is that of n equal ones if and only if each element below n is that one.
 use Prim.Native.Nat.{ℕ, zero, suc}
 use mathlib.Core.Path.{◌≡◌, refl, sym, ap, ap₂, ◌∙◌}
 use mathlib.Core.Bool.{Bool, true, false, ◌&&◌, and-true, and-false}

@@ -13,7 +13,7 @@ const MOST_RESTARTS: u32 = 63;
 
 const MOST_WORKING: u32 = 12225;
 
-// One instruction, and below one write, by value: so it is compared as one word.
+// One instruction, and below one write, by value: behind a reference they take some four times as long.
 #[tactic(auto, using(crate::proofs::Blanks::instr_is))]
 fn is_no_instr(x: Instr) -> bool
     ensures { result ≡ is_no_instr x }

@@ -37,7 +37,7 @@ impl Instr {
     }
 
     // Legal at position i of k instructions. No `match` on the op: its table of jumps costs a script of ops 4 to
-    // 7 up to half as much again.
+    // 7 more than half as much again.
     #[tactic(auto, unfolding(crate::specs::Legal::legal_at))]
     fn is_legal(self, i: usize, k: usize) -> bool
         ensures { result ≡ legal_at k i self }

@@ -38,6 +38,10 @@ pub digits_more : (n : ℕ) → 10 ≤ n → n ≤ largest → digits n ≡ digi
 unfolding digits
 digits_more n h l = in_more 9 n h ∙ ap (λ (d : List ℕ). d ++ ((zero_byte + n % 10) ∷ [])) (enough 8 (n / 10) (omega arith))
 
+pub digits_two : (n : ℕ) → 10 ≤ n → n < 100 → digits n ≡ (zero_byte + n / 10) ∷ (zero_byte + n % 10) ∷ []
+digits_two n h l =
+    digits_more n h (omega arith) ∙ ap (λ (d : List ℕ). d ++ ((zero_byte + n % 10) ∷ [])) (digits_one (n / 10) (omega arith))
+
 -- ---- how many there are
 
 pub length_one : (n : ℕ) → n < 10 → length (digits n) ≡ 1

@@ -1,4 +1,4 @@
--- The instructions of a body. A turn takes four bytes off what is left and stores the instruction that they are (`held_more`); where no four
+-- The instructions of a body. At the start the array is the blank script's. A turn takes four bytes off what is left and stores the instruction that they are (`held_more`); where no four
 -- bytes are left, all k have come.
 use Rattle.std.proofs.Common.{rules, ◌≡◌, ◌*◌, sym, ap, ◌∙◌, arith, length, length-drop, replicate}
 use Rattle.std.specs.Iterator.Adapters.{enumerate_source, enumerate_count}
