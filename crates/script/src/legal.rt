@@ -37,18 +37,18 @@ impl Instr {
     }
 
     // Legal at position i of k instructions. No `match` on the op: its table of jumps costs a script of ops 4 to
-    // 7 more than half as much again. Op 8 first: behind the others it takes longer than by the table.
+    // 7 more than half as much again.
     #[tactic(auto, unfolding(crate::specs::Legal::legal_at))]
     fn is_legal(self, i: usize, k: usize) -> bool
         ensures { result ≡ legal_at k i self }
     {
         is_register(self.a)
-            && if self.op == 8 {
-                self.skip_is_legal(i, k)
-            } else if self.op < 4 {
+            && if self.op < 4 {
                 self.op == 1 || (1 < self.op && is_cell(self.k16()))
+            } else if self.op < 8 {
+                self.two_registers()
             } else {
-                self.op < 8 && self.two_registers()
+                self.op == 8 && self.skip_is_legal(i, k)
             }
     }
 }
